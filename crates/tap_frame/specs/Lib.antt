@@ -1,0 +1,5 @@
+pub mod Header
+pub mod Frame
+pub mod Spelling
+pub mod Text
+pub mod Laws
