@@ -1,0 +1,101 @@
+//! Measures programs of `ebpf_code` and `ebpf_run`. Without the word `time` it prints what the programs
+//! give; with it also nanoseconds, for each executed instruction and for each slot that is accepted.
+#![tactic(auto)]
+
+use anyhow::{Context, Result};
+use ebpf_code::{Program, accept};
+use ebpf_run::evaluate;
+use std::alloc::Global;
+use std::env;
+use std::rt::{Clock, Env};
+use std::time::Instant;
+
+const MOVE: [u8; 8] = [0xb7, 0, 0, 0, 0, 0, 0, 0];
+
+const ADD: [u8; 8] = [0x07, 0, 0, 0, 1, 0, 0, 0];
+
+const LOAD: [u8; 8] = [0x30, 0, 0, 0, 9, 0, 0, 0];
+
+const EXIT: [u8; 8] = [0x95, 0, 0, 0, 0, 0, 0, 0];
+
+fn main(rt: HostRuntime) -> Result<()> {
+    let mut timed = false;
+    for word in env::args(&rt)? {
+        timed = timed || word.as_str() == "time";
+    }
+    let rounds = if timed { 2000 } else { 1 };
+    executed(&rt, "additions", &ADD, rounds, timed)?;
+    executed(&rt, "loads", &LOAD, rounds, timed)?;
+    accepted(&rt, 100, rounds * 20, timed)?;
+    accepted(&rt, 4096, rounds / 2 + 1, timed)
+}
+
+/// A program that moves, has `slots` - 2 times an instruction, and ends.
+fn repeated(alloc: Global, slots: usize, instruction: &[u8; 8]) -> Result<Vec<u8>> {
+    let mut bytes = Vec::new(alloc);
+    bytes.extend_from_slice(&MOVE)?;
+    for _ in 2..slots {
+        bytes.extend_from_slice(instruction)?;
+    }
+    bytes.extend_from_slice(&EXIT)?;
+    Ok(bytes)
+}
+
+fn program_of(alloc: Global, bytes: &[u8]) -> Result<Program> {
+    accept(alloc, bytes).ok().context("a program")
+}
+
+/// 4,000 instructions of a kind, on a frame of 60 bytes.
+fn executed<R: Print + Clock + AllocGlobal>(
+    rt: &R,
+    name: &str,
+    instruction: &[u8; 8],
+    rounds: u64,
+    timed: bool,
+) -> Result<()> {
+    let bytes = repeated(rt.alloc(), 4002, instruction)?;
+    let program = program_of(rt.alloc(), &bytes)?;
+    let frame = [7u8; 60];
+    let start = Instant::now(rt)?;
+    let mut last = 0;
+    for _ in 0..rounds {
+        last = evaluate(&program, &frame);
+    }
+    let elapsed = start.elapsed(rt)?.as_nanos();
+    println!(rt; "{name} {last}")?;
+    if timed {
+        report(rt, elapsed, rounds.saturating_mul(4002), "an instruction")?;
+    }
+    Ok(())
+}
+
+/// A program of so many slots, accepted again and again.
+fn accepted<R: Print + Clock + AllocGlobal>(
+    rt: &R,
+    slots: usize,
+    rounds: u64,
+    timed: bool,
+) -> Result<()> {
+    let bytes = repeated(rt.alloc(), slots, &ADD)?;
+    let start = Instant::now(rt)?;
+    let mut last = 0;
+    for _ in 0..rounds {
+        last = program_of(rt.alloc(), &bytes)?.len();
+    }
+    let elapsed = start.elapsed(rt)?.as_nanos();
+    println!(rt; "slots {last}")?;
+    if timed {
+        report(rt, elapsed, rounds.saturating_mul(slots as u64), "a slot")?;
+    }
+    Ok(())
+}
+
+/// The time of one of `count`, in tenths of a nanosecond.
+fn report(rt: &impl Print, nanos: u128, count: u64, what: &str) -> Result<()> {
+    let nanos = u64::try_from(nanos).ok().context("a time")?;
+    let tenths = nanos.saturating_mul(10) / count.max(1);
+    let whole = tenths / 10;
+    let tenth = tenths % 10;
+    println!(rt; "  {whole}.{tenth} ns {what}")?;
+    Ok(())
+}

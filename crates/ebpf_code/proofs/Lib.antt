@@ -1,0 +1,5 @@
+pub mod Places
+pub mod Checks
+pub mod Kept
+pub mod Whole
+pub mod Spells

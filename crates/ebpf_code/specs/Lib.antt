@@ -1,0 +1,6 @@
+pub mod Encoding
+pub mod Instruction
+pub mod Faults
+pub mod Spelling
+pub mod Sets
+pub mod Program

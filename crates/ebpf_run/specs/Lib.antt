@@ -1,0 +1,3 @@
+pub mod Calculation
+pub mod Meaning
+pub mod Machine

@@ -1,0 +1,11 @@
+use Rattle.std.proofs.Common.{rules, ap, ◌∙◌, arith}
+use Rattle.vring_split.specs.Split.{le16_bytes, le32_bytes, le64_bytes, desc_of}
+use Rattle.vring_split.proofs.Fields.{desc_back}
+use Rattle.vring_split.proofs.desc.Desc.bytes.Goals as goal
+
+pub returns-clause-value : goal.returns-clause-value
+unfolding le16_bytes le32_bytes le64_bytes
+returns-clause-value c = search rules
+
+pub returns-clause-back : goal.returns-clause-back
+returns-clause-back c = ap desc_of (returns-clause-value c) ∙ desc_back c.args.self.now (omega arith) (omega arith) (omega arith) (omega arith)

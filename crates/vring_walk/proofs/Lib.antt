@@ -1,0 +1,6 @@
+pub mod Rooms
+pub mod KeptRules
+pub mod Paths
+pub mod Walks
+pub mod Endings
+pub mod Usable

@@ -1,0 +1,28 @@
+//! The walker of split rings: it takes the chain that a driver made available, and trusts nothing.
+//!
+//! `fetch` reads the available ring at a position and follows the chain's descriptors, through one
+//! indirect table at most. It appends the chain's segments to a room, or says that there is nothing
+//! new, which rule the ring breaks first, or that the room has too few places left.
+//!
+//! `specs/Chain.antt` says what a chain is and which rule a path breaks first, and `specs/Fetch.antt`
+//! what a fetch answers. Both speak of the bytes of the memory and of no code. A contract sees the
+//! room, `Segments`, as the list of its segments.
+#![tactic(auto)]
+
+mod good;
+mod laws;
+mod read;
+mod rules;
+mod segments;
+mod table;
+mod walk;
+
+pub use crate::good::is_good;
+pub use crate::laws::{chains_are_usable, no_long_path, one_answer};
+pub use crate::segments::Segments;
+pub use crate::table::Table;
+pub use crate::walk::{Fetched, fetch};
+pub use vring_split::{RingFault, Segment};
+
+#[cfg(test)]
+mod tests;

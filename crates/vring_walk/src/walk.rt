@@ -1,0 +1,132 @@
+ghost use Rattle.std.specs.Prelude.{◌≡◌, ◌≢◌, ◌++◌, ◌<◌, ◌≤◌, List, length, take, IfOk, IfErr, ℕ};
+ghost use Rattle.vring_split.specs.declared.segment.Segment.{Segment as OneSegment};
+ghost use Rattle.vring_walk.specs.Chain.{IsGoodFor, IsChain, IsFirstFault};
+ghost use Rattle.vring_walk.specs.Fetch.{avail_idx, avail_head, Fetches};
+
+use crate::rules::Met;
+use crate::segments::{MAX_SEGMENTS, Segments};
+use crate::table::Table;
+use crate::{read, rules};
+use guest_mem::Memory;
+use vring_split::{Layout, RingFault, Segment};
+
+/// How many entries an indirect table has at most.
+const MAX_ENTRIES: u32 = 1024;
+
+/// What a fetch found.
+#[derive(Clone, Copy, Debug, PartialEq, Eq)]
+pub enum Fetched {
+    /// A chain, whose segments were appended.
+    Chain {
+        /// The number of its first descriptor.
+        head: u16,
+    },
+    /// No new chain.
+    Nothing,
+    /// A rule that the ring breaks, the first one.
+    Bad(RingFault),
+    /// A good chain with more segments than places left.
+    Crowded,
+}
+
+// Follows the path from a head: how many segments its chain has, of which the room takes those that
+// fit, or the first rule that the path breaks. It looks at no more than the queue size and 1,025
+// descriptors.
+fn walk(mem: &Memory, ring: &Layout, head: u16, room: &mut Segments) -> Result<u16, RingFault>
+    requires good { IsGoodFor ring.now mem.now }
+    requires inside { head < ring.now.num }
+    requires few { length room.old ≤ 1024 }
+    ensures chain { IfOk result (λ count. (segments : List OneSegment) × IsChain mem.now ring.now head segments × (count ≡ length segments) × (room.new ≡ take 1024 (room.old ++ segments))) }
+    ensures fault { IfErr result (IsFirstFault mem.now ring.now head) }
+    ensures kept { take (length room.old) room.new ≡ room.old }
+{
+    let mut table = Table::own(ring);
+    let mut index = head;
+    let mut met = Met {
+        seen: 0,
+        count: 0,
+        writable: false,
+    };
+    for _ in 0..u32::from(ring.num) + MAX_ENTRIES + 1 {
+        let desc = read::desc_at(mem, &table, index);
+        if let Some(fault) = rules::broken_rule(mem, ring, &table, &desc, &met) {
+            return Err(fault);
+        }
+        if desc.is_indirect() {
+            table = Table::of(&desc);
+            index = 0;
+            met.seen = 0;
+            continue;
+        }
+        let write = desc.is_writable();
+        room.add(Segment {
+            addr: desc.addr,
+            len: desc.len,
+            write,
+        });
+        met = Met {
+            seen: met.seen + 1,
+            count: met.count + 1,
+            writable: met.writable | write,
+        };
+        if !desc.has_next() {
+            return Ok(met.count);
+        }
+        index = desc.next;
+    }
+    unreachable!()
+}
+
+/// Takes the chain that is available at a position, and appends its segments to the room.
+///
+/// A position is the index that the driver had before it made the chain available. The answer is
+/// `Chain` exactly where a good chain is there and fits, `Nothing` where the available index is the
+/// position, `Bad` with the first rule that the ring breaks, and `Crowded` where the chain is good
+/// and has more segments than the room has places left. The last three leave the room unchanged.
+pub fn fetch(mem: &Memory, ring: &Layout, last: u16, room: &mut Segments) -> Fetched
+    requires { IsGoodFor ring.now mem.now }
+    ensures answer { Fetches mem.now ring.now last room.old result room.new }
+{
+    let index = available_index(mem, ring);
+    if index == last {
+        return Fetched::Nothing;
+    }
+    if index.wrapping_sub(last) > ring.num {
+        return Fetched::Bad(RingFault::AvailJump);
+    }
+    let head = available_head(mem, ring, last);
+    if head >= ring.num {
+        return Fetched::Bad(RingFault::HeadRange);
+    }
+    let kept = room.list().len();
+    match walk(mem, ring, head, room) {
+        Ok(count) => {
+            if kept + usize::from(count) <= MAX_SEGMENTS {
+                Fetched::Chain { head }
+            } else {
+                room.truncate(kept);
+                Fetched::Crowded
+            }
+        }
+        Err(fault) => {
+            room.truncate(kept);
+            Fetched::Bad(fault)
+        }
+    }
+}
+
+// The available index.
+fn available_index(mem: &Memory, ring: &Layout) -> u16
+    requires { IsGoodFor ring.now mem.now }
+    ensures { result ≡ avail_idx mem.now ring.now }
+{
+    read::le16_at(mem, ring.avail_idx_addr())
+}
+
+// The head in the available ring's entry of a position.
+fn available_head(mem: &Memory, ring: &Layout, position: u16) -> u16
+    requires { IsGoodFor ring.now mem.now }
+    ensures { result ≡ avail_head mem.now ring.now position }
+{
+    read::le16_at(mem, ring.avail_entry_addr(position))
+}
