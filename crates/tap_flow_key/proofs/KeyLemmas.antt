@@ -1,0 +1,37 @@
+-- Lemmas about the order of ends.
+use Rattle.std.proofs.Common.{◌≡◌, ℕ, List, [], ◌∷◌, ◌++◌, length, sym, ap, ◌∙◌, refl, arith}
+use Rattle.std.specs.Ordering.{nat_cmp, ordering_then, ordering_reverse, match_ordering}
+use Rattle.std.specs.declared.cmp.Ordering.{Ordering}
+use Rattle.std.specs.declared.cmp.Ordering.TheVariants.{Less, Equal, Greater}
+use Rattle.std.specs.Cmp.Lexicographic.{slice_cmp, nat_list_cmp_total}
+use Rattle.std.specs.FinMap.{slice_cmp-IsAntisymmetric, nat_cmp-IsAntisymmetric}
+use Rattle.tap_flow_key.specs.FlowKey.{in_order}
+
+then_assoc : (a b c : Ordering) → ordering_then (ordering_then a b) c ≡ ordering_then a (ordering_then b c)
+then_assoc Less b c = refl
+then_assoc Equal b c = refl
+then_assoc Greater b c = refl
+
+-- where the fronts are of one length, they decide first
+pub slice_cmp-append : (xs ys us vs : List ℕ) → length xs ≡ length ys → slice_cmp nat_cmp (xs ++ us) (ys ++ vs) ≡ ordering_then (slice_cmp nat_cmp xs ys) (slice_cmp nat_cmp us vs)
+slice_cmp-append [] [] us vs same = refl
+slice_cmp-append [] (y ∷ ys) us vs same = absurd (omega arith)
+slice_cmp-append (x ∷ xs) [] us vs same = absurd (omega arith)
+slice_cmp-append (x ∷ xs) (y ∷ ys) us vs same =
+    ap (ordering_then (nat_cmp x y)) (slice_cmp-append xs ys us vs (omega arith)) ∙ sym (then_assoc (nat_cmp x y) (slice_cmp nat_cmp xs ys) (slice_cmp nat_cmp us vs))
+
+-- the two ends are an unordered pair
+pub in_order_comm : (x y : List ℕ) → in_order x y ≡ in_order y x
+in_order_comm x y =
+    let back = nat_list_cmp_total.antisymm y x in
+    elim (slice_cmp nat_cmp x y) as (λ o. slice_cmp nat_cmp x y ≡ o → match_ordering o (x ++ y) (x ++ y) (y ++ x) ≡ in_order y x) [
+      | Less ↦ λ e. sym (ap (λ o. match_ordering o (y ++ x) (y ++ x) (x ++ y)) (back ∙ ap ordering_reverse e))
+      | Equal ↦ λ e. let same = slice_cmp-IsAntisymmetric nat_cmp-IsAntisymmetric x y e in ap (λ z. z ++ y) same ∙ ap (λ z. y ++ z) (sym same) ∙ sym (ap (λ o. match_ordering o (y ++ x) (y ++ x) (x ++ y)) (back ∙ ap ordering_reverse e))
+      | Greater ↦ λ e. sym (ap (λ o. match_ordering o (y ++ x) (y ++ x) (x ++ y)) (back ∙ ap ordering_reverse e))
+    ] refl
+
+-- an order that is decided stays so
+pub decided : (o p : Ordering) → (o ≡ Equal → ⊥) → o ≡ ordering_then o p
+decided Less p h = refl
+decided Equal p h = absurd (h refl)
+decided Greater p h = refl

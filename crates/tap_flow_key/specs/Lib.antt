@@ -1,0 +1,4 @@
+pub mod Fnv
+pub mod FlowKey
+pub mod Exchange
+pub mod Layouts

@@ -1,0 +1,10 @@
+use Rattle.tap_flows.proofs.WalkLemmas.{free_none, free_more, free_by}
+use Rattle.tap_flows.proofs.table.free_chain.Goals as goal
+
+pub loop-number-init : goal.loop-number-init
+loop-number-init c = free_none c.in_ok-chains.chains.next.items c.in_ok-chains.chains.previous.items c.in_ok-chains.ensures.next c.in_ok-chains.ensures.previous
+
+pub loop-number-preserved : goal.loop-number-preserved
+loop-number-preserved c =
+    let links = c.loop-number.chains in
+    free_by _ _ _ _ _ (free_more links.next.items links.previous.items c.loop-number.number c.loop-number-test.true c.loop-number.invariant) c.link.ensures.next c.link.ensures.previous

@@ -1,0 +1,4 @@
+pub mod Flow
+pub mod Flows
+pub mod Nodes
+pub mod Rings
