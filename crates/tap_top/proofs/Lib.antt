@@ -1,0 +1,9 @@
+pub mod Answered
+pub mod Clauses
+pub mod Counted
+pub mod Kept
+pub mod Laws
+pub mod Line
+pub mod OneWord
+pub mod Passing
+pub mod Written

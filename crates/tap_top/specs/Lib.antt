@@ -1,0 +1,6 @@
+pub mod Run
+pub mod Output
+pub mod Headline
+pub mod Top
+pub mod Course
+pub mod Engine

@@ -1,0 +1,150 @@
+//! The trace and the report of a run, and their text.
+
+ghost use Rattle.std.specs.Prelude.{◌≡◌, ◌+◌, ◌<◌, ◌^◌, ◌++◌, ◌∷◌, [], List, OnOk, IfOk, string_bytes, count_by, length};
+ghost use Rattle.scen_text.specs.declared.scenario.OneFile.{OneFile as Parts};
+ghost use Rattle.scen_text.specs.declared.trace.OpText.TheVariants.{SetIff as Attach};
+ghost use Rattle.scen_text.specs.Field.{line, text};
+ghost use Rattle.scen_text.specs.ScenarioText.{Fits, IsOneFile, all_commands, scenario_of};
+ghost use Rattle.tap_top.specs.Output.{device_fields, file_fields, total_fields, output_with, drops, is_drop, output_of, place_lines, report_lines, trace_with};
+ghost use Rattle.tap_top.specs.Run.{Entry, reads, waiting};
+
+use crate::parts::{capacity_of, commands_of, name_of};
+use crate::running::{Outcome, run};
+use scen_text::{
+    Answer, AnswerLine, Command, FilePart, OpLine, OpText, PhasePart, Scenario, Text, Trace,
+    print_trace,
+};
+use sqlite_items::Items;
+use std::alloc::{AllocError, Global};
+use std::fmt::Write;
+
+/// How many answers say that a frame was dropped.
+fn drops(answers: &[AnswerLine]) -> usize
+    ensures { result ≡ drops answers.now }
+{
+    answers
+        .iter()
+        .filter(|a| matches!(a.answer, Answer::Dropped { .. }))
+        .count()
+}
+
+#[tactic(auto, unfolding(crate::specs::Output::device_fields))]
+fn put_device(out: &mut String, name: &str, read: u64, dropped: u64) -> Result<(), AllocError>
+    ensures { OnOk result (string_bytes out.new ≡ string_bytes out.old ++ line (device_fields name.now read dropped)) }
+{
+    writeln!(out, "device {name} rx 0 tx {read} dropped {dropped}")
+}
+
+#[tactic(auto, unfolding(crate::specs::Output::file_fields))]
+fn put_file(out: &mut String, waiting: u64, read: u64) -> Result<(), AllocError>
+    ensures { OnOk result (string_bytes out.new ≡ string_bytes out.old ++ line (file_fields waiting read)) }
+{
+    write!(out, "file 0 waiting {waiting} read {read}")?;
+    out.push_str(" guest 0 purged 0 overrun 0 cut 0\n")
+}
+
+#[tactic(auto, unfolding(crate::specs::Output::total_fields))]
+fn put_total(out: &mut String, waiting: u64, read: u64, dropped: u64) -> Result<(), AllocError>
+    requires { waiting + read + dropped < 2 ^ 64 }
+    ensures { OnOk result (string_bytes out.new ≡ string_bytes out.old ++ line (total_fields waiting read dropped)) }
+{
+    let accepted = waiting + read + dropped;
+    write!(
+        out,
+        "total accepted {accepted} waiting {waiting} delivered {read} discarded {dropped}"
+    )?;
+    out.push_str("\n")
+}
+
+#[tactic(auto, unfolding(crate::specs::Output::report_lines))]
+/// Adds the report of a run: how many frames wait, were read and were dropped.
+fn put_report(
+    out: &mut String,
+    name: &str,
+    waiting: u64,
+    read: u64,
+    dropped: u64,
+) -> Result<(), AllocError>
+    requires { waiting + read + dropped < 2 ^ 64 }
+    ensures { OnOk result (string_bytes out.new ≡ string_bytes out.old ++ text (report_lines name.now waiting read dropped)) }
+{
+    out.push_str("report\n")?;
+    put_device(out, name, read, dropped)?;
+    put_file(out, waiting, read)?;
+    put_total(out, waiting, read, dropped)
+}
+
+fn ops(alloc: Global, name: &str) -> Result<Items<OpLine>, AllocError>
+    ensures { IfOk result (λ ops. ops ≡ record { version = 1; command = 0; text = Attach 0 name.now 0x1102 } ∷ []) }
+{
+    let mut ops = Items::new(alloc);
+    ops.push(OpLine {
+        version: 1,
+        command: 0,
+        text: OpText::SetIff {
+            file: 0,
+            name: Text::new(String::from_str(alloc, name)?),
+            flags: 0x1102,
+        },
+    })?;
+    Ok(ops)
+}
+
+#[tactic(auto, unfolding(crate::specs::Output::trace_with))]
+/// The trace of a run on the device of this name.
+fn trace_of(alloc: Global, name: &str, outcome: Outcome) -> Result<Trace, AllocError>
+    ensures { IfOk result (λ trace. trace ≡ trace_with name.now outcome.answers outcome.lines outcome.read) }
+{
+    let Outcome {
+        answers,
+        lines,
+        read,
+    } = outcome;
+    let mut phases = Items::new(alloc);
+    phases.push(PhasePart {
+        actors: 1,
+        ops: ops(alloc, name)?,
+        answers,
+    })?;
+    let mut files = Items::new(alloc);
+    files.push(FilePart {
+        file: 0,
+        claimed: lines.len() as u64,
+        freed: read,
+        lines,
+    })?;
+    Ok(Trace { phases, files })
+}
+
+/// The trace and the report of the run of these commands, on a file with a ring of so many places that is
+/// attached to the device of this name.
+fn output_on(
+    alloc: Global,
+    capacity: u16,
+    name: &str,
+    commands: &[Command],
+) -> Result<String, AllocError>
+    requires { length commands.now < 2 ^ 32 }
+    ensures { IfOk result (λ out. string_bytes out ≡ output_with capacity name.now commands.now) }
+{
+    let outcome = run(alloc, capacity, commands)?;
+    let read = outcome.read;
+    let placed = outcome.lines.len() as u64;
+    let dropped = drops(outcome.answers.as_slice()) as u64;
+    let mut out = print_trace(alloc, &trace_of(alloc, name, outcome)?)?;
+    put_report(&mut out, name, placed - read, read, dropped)?;
+    Ok(out)
+}
+
+/// The trace and the report of the run of a scenario.
+pub fn output_of(alloc: Global, scenario: &Scenario) -> Result<String, AllocError>
+    requires { IsOneFile scenario.now }
+    ensures { (f : Parts) → scenario.now ≡ scenario_of f → IfOk result (λ out. string_bytes out ≡ output_of f) }
+{
+    output_on(
+        alloc,
+        capacity_of(scenario),
+        name_of(scenario),
+        commands_of(scenario),
+    )
+}
