@@ -9,7 +9,7 @@ use std::time::Instant;
 use tap_flows::{Flows, Learnt};
 
 /// The time of all calls, in milliseconds.
-const NOW: u64 = 1000;
+const NOW: u64 = 1_000_000;
 
 /// A hash for each number, spread over the buckets.
 fn hash_of(number: u32) -> u32 {
@@ -55,10 +55,10 @@ fn find_all(flows: &Flows, count: u32) -> u32
     found
 }
 
-/// Ticks that remove nothing.
+/// Ticks that remove nothing, at times that differ.
 fn tick_all(flows: &mut Flows) {
-    for _ in 0..CALLS {
-        flows.tick(NOW);
+    for call in 0..CALLS {
+        flows.tick(NOW + u64::from(call % 1024));
     }
 }
 

@@ -1,3 +1,5 @@
+ghost use Rattle.std.specs.Prelude.{◌<◌, length};
+
 use crate::{CALLS, nanoseconds};
 use anyhow::Result;
 use std::rt::Clock;
@@ -11,10 +13,10 @@ const IPV4: [u8; 42] = [
 ];
 
 /// A segment over IPv6.
-const IPV6: [u8; 58] = [
+const IPV6: [u8; 60] = [
     2, 0, 0, 0, 0, 1, 2, 0, 0, 0, 0, 2, 0x86, 0xdd, 0x60, 0, 0, 0, 0, 4, 6, 64, 0xfe, 0x80, 0, 0,
     0, 0, 0, 0, 0, 0, 0, 0, 0, 0, 0, 1, 0xfe, 0x80, 0, 0, 0, 0, 0, 0, 0, 0, 0, 0, 0, 0, 0, 2, 0x12,
-    0x34, 0x00, 0x50,
+    0x34, 0x00, 0x50, 0, 0,
 ];
 
 /// A frame that carries neither.
@@ -23,17 +25,23 @@ const OTHER: [u8; 42] = [
     10, 0, 0, 2, 0, 0, 0, 0, 0, 0, 10, 0, 0, 1,
 ];
 
-/// Hashes a frame again and again.
-fn hash_all(frame: &[u8]) -> u32 {
+/// Hashes a frame again and again, with another last byte each time, which no flow depends on.
+fn hash_all(frame: &mut [u8]) -> u32
+    requires { 0 < length frame.old }
+{
+    let last = frame.len() - 1;
     let mut sum: u32 = 0;
-    for _ in 0..CALLS {
+    for call in 0..CALLS {
+        frame[last] = (call % 256) as u8;
         sum = sum.wrapping_add(flow_hash(frame));
     }
     sum
 }
 
 /// Makes the calls for one kind of frame.
-fn measure_kind<R: Print + Clock>(rt: &R, kind: &str, frame: &[u8], timed: bool) -> Result<()> {
+fn measure_kind<R: Print + Clock>(rt: &R, kind: &str, frame: &mut [u8], timed: bool) -> Result<()>
+    requires { 0 < length frame.old }
+{
     let start = Instant::now(rt)?;
     let sum = hash_all(frame);
     let hashing = start.elapsed(rt)?;
@@ -47,7 +55,10 @@ fn measure_kind<R: Print + Clock>(rt: &R, kind: &str, frame: &[u8], timed: bool)
 
 /// Makes the calls for each kind of frame.
 pub fn measure<R: Print + Clock>(rt: &R, timed: bool) -> Result<()> {
-    measure_kind(rt, "IPv4", &IPV4, timed)?;
-    measure_kind(rt, "IPv6", &IPV6, timed)?;
-    measure_kind(rt, "other", &OTHER, timed)
+    let mut ipv4 = IPV4;
+    let mut ipv6 = IPV6;
+    let mut other = OTHER;
+    measure_kind(rt, "IPv4", &mut ipv4, timed)?;
+    measure_kind(rt, "IPv6", &mut ipv6, timed)?;
+    measure_kind(rt, "other", &mut other, timed)
 }
