@@ -1,4 +1,4 @@
-//! The one pass over the slots of a program.
+//! The tests of one instruction, in the order of the faults' numbers.
 
 ghost use Rattle.std.specs.Prelude.{◌≡◌, ℕ, ◌+◌, ◌*◌, ◌%◌, ◌^◌, ◌<◌, ◌≤◌, length, Some, None, true, false, IfOk, IfErr, OnOk, slice_index_or, slice_set};
 ghost use Rattle.ebpf_code.specs.Faults.{is_second, instruction_at, slot_at, misuses_register, misuses_field, goes_beyond, lacks_exit, HasNone, IsLeast};

@@ -202,7 +202,7 @@ fn the_earlier_rule_first(rt: HostRuntime) -> Result<(), Fail> {
             0,
             false,
             false,
-            &[(0, 4096, 24, INDIRECT | NEXT, 9)],
+            &[(0, last, 24, INDIRECT | NEXT, 9)],
             bad(RingFault::IndirectOff),
         ),
         (
@@ -212,7 +212,7 @@ fn the_earlier_rule_first(rt: HostRuntime) -> Result<(), Fail> {
             true,
             &[
                 (0, 4096, 16, INDIRECT, 0),
-                (4096, 0, 24, INDIRECT | NEXT, 9),
+                (4096, last, 24, INDIRECT | NEXT, 9),
             ],
             bad(RingFault::Nested),
         ),
@@ -221,7 +221,7 @@ fn the_earlier_rule_first(rt: HostRuntime) -> Result<(), Fail> {
             0,
             false,
             true,
-            &[(0, 4096, 24, INDIRECT | NEXT, 9)],
+            &[(0, last, 24, INDIRECT | NEXT, 9)],
             bad(RingFault::IndirectNext),
         ),
         (
@@ -327,10 +327,14 @@ fn the_earlier_rule_first(rt: HostRuntime) -> Result<(), Fail> {
     Ok(())
 }
 
-// Entries of a table that follow each other, so many of them.
-fn put_table(mem: &mut Memory, at: u64, entries: u16) {
+// Entries of a table that follow each other, so many of them, with these flags beside NEXT.
+fn put_table(mem: &mut Memory, at: u64, entries: u16, others: u16) {
     for i in 0..entries {
-        let flags = if i + 1 < entries { NEXT } else { 0 };
+        let flags = if i + 1 < entries {
+            others | NEXT
+        } else {
+            others
+        };
         put(
             mem,
             at.saturating_add(16 * u64::from(i)),
@@ -343,12 +347,53 @@ fn put_table(mem: &mut Memory, at: u64, entries: u16) {
 }
 
 #[test]
+fn the_earlier_rule_at_the_last_segment(rt: HostRuntime) -> Result<(), Fail> {
+    let last = u64::MAX;
+    for (rx, addr, len, flags, want) in [
+        (false, last, 1u32, WRITE | NEXT, unmapped(last, 1)),
+        (true, last, 1, NEXT, unmapped(last, 1)),
+        (true, 4096, 16, NEXT, bad(RingFault::Order)),
+        (false, 4096, 16, WRITE | NEXT, bad(RingFault::Direction)),
+        (false, 4096, 16, NEXT, bad(RingFault::TooManySegments)),
+    ] {
+        let mut mem = one_region(rt.alloc())?;
+        let mut room = Segments::new(rt.alloc())?;
+        let others = if rx { WRITE } else { 0 };
+        put_field(&mut mem, 66, 1);
+        put(&mut mem, 0, 4096, 16, others | NEXT, 1);
+        put(&mut mem, 16, 16_384, 16_384, INDIRECT, 0);
+        put_table(&mut mem, 16_384, 1024, others);
+        put(&mut mem, 16_384 + 16 * 1023, addr, len, flags, 2000);
+        assert_eq!(rt;
+            fetched(&mem, &ring_of(4, rx, true), 0, &mut room),
+            Some(want)
+        );
+    }
+    Ok(())
+}
+
+#[test]
+fn a_table_without_end(rt: HostRuntime) -> Result<(), Fail> {
+    let mut mem = one_region(rt.alloc())?;
+    let mut room = Segments::new(rt.alloc())?;
+    put_field(&mut mem, 66, 1);
+    put(&mut mem, 0, 16_384, 16_384, INDIRECT, 0);
+    put_table(&mut mem, 16_384, 1024, 0);
+    put(&mut mem, 16_384 + 16 * 1023, 4096, 16, NEXT, 0);
+    assert_eq!(rt;
+        fetched(&mem, &ring_of(4, false, true), 0, &mut room),
+        Some(bad(RingFault::TooLong))
+    );
+    Ok(())
+}
+
+#[test]
 fn many_segments(rt: HostRuntime) -> Result<(), Fail> {
     let mut mem = one_region(rt.alloc())?;
     let mut room = Segments::new(rt.alloc())?;
     let ring = ring_of(4, false, true);
     put_field(&mut mem, 66, 1);
-    put_table(&mut mem, 16_384, 1024);
+    put_table(&mut mem, 16_384, 1024, 0);
     put(&mut mem, 0, 4096, 16, NEXT, 1);
     put(&mut mem, 16, 16_384, 16_384, INDIRECT, 0);
     assert_eq!(rt;
