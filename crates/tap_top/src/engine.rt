@@ -23,7 +23,7 @@ pub struct Engine {
 }
 
 impl Engine {
-    ghost use Rattle.std.specs.Prelude.{◌≡◌, ◌+◌, ◌≤◌, [], ◌∷◌, ◌++◌, length, List, IfOk, None, take};
+    ghost use Rattle.std.specs.Prelude.{◌≡◌, ◌+◌, ◌≤◌, [], ◌∷◌, ◌++◌, length, List, IfOk, None};
     ghost use Rattle.tap_frame.specs.Frame.{bytes_of};
     ghost use Rattle.tap_frame.specs.Spelling.{first_case};
     ghost use Rattle.tap_top.specs.Run.{Entry, answer_to_read, answer_to_send, ethernet, first_waiting, line_after_send, read_first};

@@ -56,8 +56,8 @@ fn put_total(out: &mut String, waiting: u64, read: u64, dropped: u64) -> Result<
     out.push_str("\n")
 }
 
-#[tactic(auto, unfolding(crate::specs::Output::report_lines))]
 /// Adds the report of a run: how many frames wait, were read and were dropped.
+#[tactic(auto, unfolding(crate::specs::Output::report_lines))]
 fn put_report(
     out: &mut String,
     name: &str,
@@ -90,8 +90,8 @@ fn ops(alloc: Global, name: &str) -> Result<Items<OpLine>, AllocError>
     Ok(ops)
 }
 
-#[tactic(auto, unfolding(crate::specs::Output::trace_with))]
 /// The trace of a run on the device of this name.
+#[tactic(auto, unfolding(crate::specs::Output::trace_with))]
 fn trace_of(alloc: Global, name: &str, outcome: Outcome) -> Result<Trace, AllocError>
     ensures { IfOk result (λ trace. trace ≡ trace_with name.now outcome.answers outcome.lines outcome.read) }
 {
