@@ -1,71 +1,120 @@
--- How many listed calls are over, after one call more.
-use Rattle.std.proofs.Common.{◌≡◌, ℕ, zero, suc, ◌+◌, ◌^◌, ◌<◌, ◌≤◌, cond, ltb, List, [], ◌∷◌, ◌++◌, length, get_or, take, drop, refl, sym, ap, ◌∙◌, inl, inr, arith}
-use Rattle.std.specs.Prelude.{Contains}
-use Rattle.std.proofs.lemmas.Bool.{cases_lt, lt-ltb, le-ltb}
-use Rattle.std.proofs.lemmas.List.{take_at, take-append-drop, length-take}
-use Rattle.std.proofs.lemmas.List.Sums.{sum_by-cons}
-use Rattle.tap_outside.specs.Ends.{Rose}
-use Rattle.tap_outside.specs.Memory.{failed_calls, one_more}
+-- What one call of an end in memory does to its count of faults.
+use Rattle.std.proofs.Common.{◌≡◌, ℕ, zero, suc, ◌+◌, ◌^◌, ◌<◌, ◌≤◌, Bool, true, false, cond, not, ◌&&◌, List, [], ◌∷◌, length, take, drop, get_or, ◌++◌, refl, sym, ap, ◌∙◌, ◌⊎◌, inl, inr, arith}
+use Rattle.std.specs.Prelude.{Contains, nat_lt, if◌then◌else◌}
+use Rattle.std.proofs.lemmas.Bool.{cases_lt, lt-ltb, le-ltb, eq-eqb, ne_eqb}
+use Rattle.std.proofs.lemmas.List.{length-take, take-append-drop, take_at}
+use Rattle.tap_outside.specs.Ends.{one_more}
+use Rattle.tap_outside.specs.Memory.{EndsWell, Supply, failed_calls, lists}
 
--- whether one call is over, as a number
-abbrev over : ℕ → ℕ → ℕ
-over call calls = cond (ltb call calls) 1 0
+-- a test as a number
+abbrev counted : Bool → ℕ
+counted b = cond b 1 0
 
-failed_calls-cons : (call : ℕ) (fails : List ℕ) (calls : ℕ) → failed_calls (call ∷ fails) calls ≡ over call calls + failed_calls fails calls
-failed_calls-cons call fails calls = sum_by-cons (λ x. over x calls) call fails
+-- the list has this number, or not
+lists-cons_same : (n : ℕ) (ns : List ℕ) (c : ℕ) → n ≡ c → lists (n ∷ ns) c ≡ true
+lists-cons_same n ns c e = rw (eq-eqb n c e) refl
 
-over-later : (x c d : ℕ) → c ≤ d → over x c ≤ over x d
-over-later x c d le =
-    elim (cases_lt x c) [
-      | inl lt ↦ let h : x < d = omega arith in rw (lt-ltb x c lt, lt-ltb x d h) (omega arith)
-      | inr ge ↦ rw (le-ltb x c ge) (omega arith)
+lists-cons_other : (n : ℕ) (ns : List ℕ) (c : ℕ) → (n ≡ c → ⊥) → lists (n ∷ ns) c ≡ lists ns c
+lists-cons_other n ns c ne = rw (ne_eqb n c ne) refl
+
+-- whether a number is this one
+same_or_other : (n c : ℕ) → (n ≡ c) ⊎ (n ≡ c → ⊥)
+same_or_other n c =
+    elim (cases_lt n c) [
+      | inl lt ↦ inr (λ e. omega arith)
+      | inr ge ↦ elim (cases_lt c n) [ inl gt ↦ inr (λ e. omega arith) | inr le ↦ inl (omega arith) ]
     ]
 
-failed_calls-later : (fails : List ℕ) (c d : ℕ) → c ≤ d → failed_calls fails c ≤ failed_calls fails d
-failed_calls-later [] c d le = omega arith
-failed_calls-later (x ∷ xs) c d le =
-    omega (arith, failed_calls-cons x xs c, failed_calls-cons x xs d, over-later x c d le, failed_calls-later xs c d le)
-
-failed_calls-listed : (fails : List ℕ) (k c : ℕ) → k < length fails → get_or fails k c ≡ c → failed_calls fails c + 1 ≤ failed_calls fails (c + 1)
-failed_calls-listed [] k c lt e = absurd (omega arith)
-failed_calls-listed (x ∷ xs) zero c lt e =
-    let before : over x c ≡ 0 = rw (le-ltb x c (omega arith)) refl in
-    let after : over x (c + 1) ≡ 1 = rw (lt-ltb x (c + 1) (omega arith)) refl in
-    omega (arith, failed_calls-cons x xs c, failed_calls-cons x xs (c + 1), before, after, failed_calls-later xs c (c + 1) (omega arith))
-failed_calls-listed (x ∷ xs) (suc k) c lt e =
-    omega (arith, failed_calls-cons x xs c, failed_calls-cons x xs (c + 1), over-later x c (c + 1) (omega arith), failed_calls-listed xs k c (omega arith) e)
-
-over-other : (x c : ℕ) → (x ≡ c → ⊥) → over x (c + 1) ≡ over x c
-over-other x c ne =
-    elim (cases_lt x c) [
-      | inl lt ↦ rw (lt-ltb x c lt, lt-ltb x (c + 1) (omega arith)) refl
-      | inr ge ↦ rw (le-ltb x c ge, le-ltb x (c + 1) (omega arith)) refl
+lists-true : (ns : List ℕ) (c k : ℕ) → k < length ns → get_or ns k c ≡ c → lists ns c ≡ true
+lists-true [] c k lt e = absurd (omega arith)
+lists-true (n ∷ ns) c zero lt e = lists-cons_same n ns c e
+lists-true (n ∷ ns) c (suc k) lt e =
+    elim (same_or_other n c) [
+      | inl same ↦ lists-cons_same n ns c same
+      | inr other ↦ lists-cons_other n ns c other ∙ lists-true ns c k (omega arith) e
     ]
 
-failed_calls-unlisted : (fails : List ℕ) (c : ℕ) → (Contains fails c → ⊥) → failed_calls fails (c + 1) ≡ failed_calls fails c
-failed_calls-unlisted [] c absent = refl
-failed_calls-unlisted (x ∷ xs) c absent =
-    let first : x ≡ c → ⊥ = λ e. absent (0, omega arith, e) in
-    let others : Contains xs c → ⊥ = λ h. absent (suc h.0, omega (arith, h.1), h.2) in
-    failed_calls-cons x xs (c + 1) ∙ ap (λ n. n + failed_calls xs (c + 1)) (over-other x c first)
-    ∙ ap (λ n. over x c + n) (failed_calls-unlisted xs c others) ∙ sym (failed_calls-cons x xs c)
+lists-false : (ns : List ℕ) (c : ℕ) → (Contains ns c → ⊥) → lists ns c ≡ false
+lists-false [] c absent = refl
+lists-false (n ∷ ns) c absent =
+    let first : n ≡ c → ⊥ = λ e. absent (0, omega arith, e) in
+    let others : Contains ns c → ⊥ = λ h. absent (suc h.0, omega (arith, h.1), h.2) in
+    lists-cons_other n ns c first ∙ lists-false ns c others
 
--- the count never falls
-pub count_stays_or_rises : (fails : List ℕ) (c d : ℕ) → d ≡ one_more c → c < 2 ^ 64 → failed_calls fails c ≤ failed_calls fails d
-count_stays_or_rises fails c d e lt = failed_calls-later fails c d (omega arith)
+both : (b : Bool) → counted b + counted (not b) ≡ 1
+both true = refl
+both false = refl
 
--- it rises at a listed call
-pub count_rises : (fails : List ℕ) (c d : ℕ) → d ≡ one_more c → c < 2 ^ 32 → Contains fails c → Rose (failed_calls fails c) (failed_calls fails d)
-count_rises fails c d e lt h =
+at_most_one : (b : Bool) → counted b ≤ 1
+at_most_one true = omega arith
+at_most_one false = omega arith
+
+-- whether a number of the list counts, once so many calls are over
+abbrev over : ℕ → List ℕ → ℕ → ℕ
+over n ns calls = if nat_lt n calls && not (lists ns n) then 1 else 0
+
+over-same : (n : ℕ) (ns : List ℕ) (c : ℕ) → n ≡ c → over n ns (c + 1) ≡ over n ns c + counted (not (lists ns c))
+over-same n ns c e =
+    let before : over n ns c ≡ 0 = rw (le-ltb n c (omega arith)) refl in
+    let after : over n ns (c + 1) ≡ counted (not (lists ns n)) = rw (lt-ltb n (c + 1) (omega arith)) refl in
+    let here : counted (not (lists ns n)) ≡ counted (not (lists ns c)) = ap (λ (k : ℕ). counted (not (lists ns k))) e in
+    omega (arith, before, after, here)
+
+over-other : (n : ℕ) (ns : List ℕ) (c : ℕ) → (n ≡ c → ⊥) → over n ns (c + 1) ≡ over n ns c
+over-other n ns c ne =
+    elim (cases_lt n c) [
+      | inl lt ↦ rw (lt-ltb n c lt, lt-ltb n (c + 1) (omega arith)) refl
+      | inr ge ↦ rw (le-ltb n c ge, le-ltb n (c + 1) (omega arith)) refl
+    ]
+
+-- one more call adds one where it is listed
+failed_calls-next : (ns : List ℕ) (c : ℕ) → failed_calls ns (c + 1) ≡ failed_calls ns c + counted (lists ns c)
+failed_calls-next [] c = refl
+failed_calls-next (n ∷ ns) c =
+    elim (same_or_other n c) [
+      | inl same ↦
+          let listed : counted (lists (n ∷ ns) c) ≡ 1 = ap counted (lists-cons_same n ns c same) in
+          omega (arith, failed_calls-next ns c, over-same n ns c same, both (lists ns c), listed)
+      | inr other ↦
+          let listed : counted (lists (n ∷ ns) c) ≡ counted (lists ns c) = ap counted (lists-cons_other n ns c other) in
+          omega (arith, failed_calls-next ns c, over-other n ns c other, listed)
+    ]
+
+failed_calls-zero : (ns : List ℕ) → failed_calls ns 0 ≡ 0
+failed_calls-zero [] = refl
+failed_calls-zero (n ∷ ns) = omega (arith, failed_calls-zero ns, (let none : over n ns 0 ≡ 0 = rw (le-ltb n 0 (omega arith)) refl in none))
+
+-- no more faults than calls
+failed_calls-few : (ns : List ℕ) (c : ℕ) → failed_calls ns c ≤ c
+failed_calls-few ns zero = omega (arith, failed_calls-zero ns)
+failed_calls-few ns (suc c) =
+    let here : failed_calls ns (suc c) ≡ failed_calls ns (c + 1) = ap (λ (k : ℕ). failed_calls ns k) (omega arith) in
+    omega (arith, here, failed_calls-few ns c, failed_calls-next ns c, at_most_one (lists ns c))
+
+-- a listed call is one more fault
+pub count_rises : (ns : List ℕ) (c d : ℕ) → d ≡ one_more c → c < 2 ^ 32 → Contains ns c → failed_calls ns d ≡ one_more (failed_calls ns c)
+count_rises ns c d e lt h =
     let next : d ≡ c + 1 = omega arith in
-    rw next (omega (arith, failed_calls-listed fails h.0 c h.1 h.2))
+    let listed : counted (lists ns c) ≡ 1 = ap counted (lists-true ns c h.0 h.1 h.2) in
+    rw next (omega (arith, failed_calls-next ns c, failed_calls-few ns c, listed))
 
--- and stays at any other
-pub count_stays : (fails : List ℕ) (c d : ℕ) → d ≡ one_more c → c < 2 ^ 64 → (Contains fails c → ⊥) → failed_calls fails d ≡ failed_calls fails c
-count_stays fails c d e lt absent =
+-- any other is none
+pub count_stays : (ns : List ℕ) (c d : ℕ) → d ≡ one_more c → c < 2 ^ 64 → (Contains ns c → ⊥) → failed_calls ns d ≡ failed_calls ns c
+count_stays ns c d e lt absent =
+    let unlisted : counted (lists ns c) ≡ 0 = ap counted (lists-false ns c absent) in
     elim (cases_lt (c + 1) (2 ^ 64)) [
-      | inl below ↦ let next : d ≡ c + 1 = omega arith in rw next (failed_calls-unlisted fails c absent)
+      | inl below ↦ let next : d ≡ c + 1 = omega arith in rw next (omega (arith, failed_calls-next ns c, unlisted))
       | inr last ↦ let same : d ≡ c = omega arith in rw same refl
+    ]
+
+-- a piece of at least one byte leaves fewer calls that can be needed
+pub goes_on_well : (s : Supply) (left : List ℕ) (d : ℕ) → d ≡ one_more s.calls → 1 ≤ length s.left → length left + 1 ≤ length s.left
+    → s.calls < 2 ^ 64 → EndsWell s → (call : ℕ) → Contains s.fails call → d ≤ call → d + length left < call
+goes_on_well s left d e some fewer small well call listed late =
+    let far = well call listed in
+    elim (cases_lt call s.calls) [
+      | inl before ↦ absurd (omega arith)
+      | inr after ↦ let past : s.calls + length s.left < call = far after in omega arith
     ]
 
 -- the bytes given are those taken from the front

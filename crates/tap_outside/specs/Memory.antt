@@ -1,5 +1,5 @@
 -- This project's own: a source and a sink in memory, some of whose calls fail.
-use Rattle.std.specs.Prelude.{ℕ, ◌+◌, ◌-◌, ◌^◌, min, List, nat_lt, count_by}
+use Rattle.std.specs.Prelude.{ℕ, ◌+◌, ◌<◌, ◌≤◌, ◌==◌, ◌||◌, ◌&&◌, Bool, false, not, List, [], ◌∷◌, length, nat_lt, if◌then◌else◌, Contains}
 
 -- a source in memory
 pub record Supply : Type 0 where
@@ -23,10 +23,16 @@ pub record Store : Type 0 where
   -- the greatest piece that it takes
   pub most : ℕ
 
--- how many of the listed calls are over
-abbrev pub failed_calls : List ℕ → ℕ → ℕ
-failed_calls fails calls = count_by (λ call. nat_lt call calls) fails
+-- the list has this number
+abbrev pub lists : List ℕ → ℕ → Bool
+lists [] number = false
+lists (n ∷ ns) number = n == number || lists ns number
 
--- a count of calls after one more, which stands still at the end of its type
-abbrev pub one_more : ℕ → ℕ
-one_more calls = min (calls + 1) (2 ^ 64 - 1)
+-- How many of the listed calls are over. A number that is listed twice is one call: it counts where it stands last.
+abbrev pub failed_calls : List ℕ → ℕ → ℕ
+failed_calls [] calls = 0
+failed_calls (n ∷ ns) calls = failed_calls ns calls + (if nat_lt n calls && not (lists ns n) then 1 else 0)
+
+-- No call fails of those that can be needed to meet the end: one for each byte that is left, and one that tells it.
+abbrev pub EndsWell : Supply → Type 0
+EndsWell s = (call : ℕ) → Contains s.fails call → s.calls ≤ call → s.calls + length s.left < call

@@ -3,11 +3,12 @@
 //! A [`Source`] means the bytes that it has left, where it tells them, and a count of its faults; a
 //! [`Sink`] means the bytes that it was given, where it tells them, and a count of its faults.
 //! [`MemSource`] and [`MemSink`] tell their bytes, and fail at listed calls. [`StdSource`] and
-//! [`StdSink`] stand over std's readers and writers and tell no bytes: they are the trusted edge,
-//! since no contract says what a file or a terminal gives or takes.
+//! [`StdSink`] stand over std's readers and writers, and tell what std's contracts tell of these: a
+//! reader or writer in memory tells its bytes, a file or a terminal tells none and is trusted.
 //!
-//! `specs/Ends.antt` has what a call does to bytes and counts, `specs/Memory.antt` what an end in
-//! memory is to a contract, and `proofs/Ends.antt` lemmas for loops of calls.
+//! What a call does to bytes is said in std's words (`Consumes`, `Appends`, `Keeps`).
+//! `specs/Ends.antt` has the count, and `specs/Memory.antt` and `specs/Standard.antt` what these
+//! ends are to a contract.
 #![tactic(auto)]
 
 mod memory;

@@ -1,8 +1,8 @@
 //! A source and a sink in memory, which tell their bytes and fail at listed calls.
 
-ghost use Rattle.std.specs.Prelude.{◌≡◌, ℕ, ◌+◌, ◌^◌, ◌<◌, ◌≤◌, ◌↔◌, List, [], ◌∷◌, ◌++◌, length, take, drop, min, Some, None, IfOk, IsErr, OnErr, IsErrOf, IsTrue, Contains};
-ghost use Rattle.tap_outside.specs.Ends.{Takes, Appends, IsAtEnd, Rose};
-ghost use Rattle.tap_outside.specs.Memory.{failed_calls, one_more};
+ghost use Rattle.std.specs.Prelude.{◌≡◌, ℕ, ◌+◌, ◌^◌, ◌<◌, ◌≤◌, ◌↔◌, List, [], ◌∷◌, ◌++◌, length, take, drop, min, Some, IfOk, OnOk, IsErr, OnErr, IsErrOf, IsOkAnd, IsTrue, Contains};
+ghost use Rattle.tap_outside.specs.Ends.{one_more};
+ghost use Rattle.tap_outside.specs.Memory.{EndsWell, failed_calls};
 
 use crate::{Failed, Sink, SinkErr, Source};
 use std::alloc::Global;
@@ -27,7 +27,12 @@ impl Model for MemSource {
 
     ghost Value = { Supply };
 
-    ghost view = { λ s. record { left = drop s.given s.bytes.items; calls = s.calls; fails = s.fails.items; most = s.most } };
+    ghost view = { λ s. record {
+      left = drop s.given s.bytes.items;
+      calls = s.calls;
+      fails = s.fails.items;
+      most = s.most;
+    } };
 
     ghost invariant = { λ s. (s.given ≤ vec_len s.bytes) × (1 ≤ s.most) };
 }
@@ -54,28 +59,31 @@ impl Source for MemSource {
 
     ghost faults = { λ s. failed_calls s.fails s.calls };
 
-    ghost is_reliable = { λ s. s.fails ≡ [] };
+    ghost ends_well = { EndsWell };
 
     /// Exactly the listed calls fail. Another gives as many bytes as it can.
     fn read(&mut self, room: &mut [u8]) -> Result<usize, Failed>
         requires { 0 < length room.old }
 
         ensures fits { IfOk result (λ n. n ≤ length room.old) }
-        ensures taken { IfOk result (λ n. Takes (Some self.old.left) (Some self.new.left) (take n room.new)) }
-        ensures end { result ≡ Ok 0 → IsAtEnd (Some self.old.left) }
-        ensures unchanged { OnErr result (Some self.new.left ≡ Some self.old.left) }
+        ensures taken { IfOk result (λ n. self.old.left ≡ take n room.new ++ self.new.left) }
+        ensures end { IfOk result (λ n. n ≡ 0 → self.new.left ≡ []) }
+        ensures unchanged { OnErr result (self.new.left ≡ self.old.left) }
 
-        ensures never_falls { failed_calls self.old.fails self.old.calls ≤ failed_calls self.new.fails self.new.calls }
-        ensures cause { OnErr result (Rose (failed_calls self.old.fails self.old.calls) (failed_calls self.new.fails self.new.calls)) }
-        ensures reliable { self.old.fails ≡ [] →
-            (self.new.fails ≡ []) × (failed_calls self.new.fails self.new.calls ≡ failed_calls self.old.fails self.old.calls) }
+        ensures no_fault { OnOk result (
+            failed_calls self.new.fails self.new.calls ≡ failed_calls self.old.fails self.old.calls) }
+        ensures fault { OnErr result (
+            failed_calls self.new.fails self.new.calls ≡ one_more (failed_calls self.old.fails self.old.calls)) }
+        ensures well { EndsWell self.old → IsOkAnd result (λ n. 0 < n → EndsWell self.new) }
         ensures none_listed { self.old.fails ≡ [] → failed_calls self.new.fails self.new.calls ≡ 0 }
 
         ensures failing { IsErr result ↔ Contains self.old.fails self.old.calls }
         ensures amount { IfOk result (λ n. n ≡ min (min self.old.most (length room.old)) (length self.old.left)) }
         ensures given { IfOk result (λ n. room.new ≡ take n self.old.left ++ drop n room.old) }
-        ensures left { IfOk result (λ n. self.new ≡ record self.old { left = drop n self.old.left; calls = one_more self.old.calls }) }
+        ensures left { IfOk result (λ n. self.new
+            ≡ record self.old { left = drop n self.old.left; calls = one_more self.old.calls }) }
         ensures failed { OnErr result (self.new ≡ record self.old { calls = one_more self.old.calls }) }
+        ensures room { OnErr result (room.new ≡ room.old) }
     {
         let call = self.calls;
         self.calls = call.saturating_add(1);
@@ -148,16 +156,16 @@ impl Sink for MemSink {
         requires { 0 < length piece.now }
 
         ensures some { IfOk result (λ n. (1 ≤ n) × (n ≤ length piece.now)) }
-        ensures appended { IfOk result (λ n. Appends (Some self.old.written) (Some self.new.written) (take n piece.now)) }
-        ensures unchanged { OnErr result (Some self.new.written ≡ Some self.old.written) }
+        ensures appended { IfOk result (λ n. self.new.written ≡ self.old.written ++ take n piece.now) }
+        ensures unchanged { OnErr result (self.new.written ≡ self.old.written) }
 
-        ensures never_falls { failed_calls self.old.fails self.old.calls ≤ failed_calls self.new.fails self.new.calls }
-        ensures cause { IsErrOf result SinkErr.Failed →
-            Rose (failed_calls self.old.fails self.old.calls) (failed_calls self.new.fails self.new.calls) }
+        ensures no_fault { OnOk result (
+            failed_calls self.new.fails self.new.calls ≡ failed_calls self.old.fails self.old.calls) }
+        ensures fault { IsErrOf result SinkErr.Failed →
+            failed_calls self.new.fails self.new.calls ≡ one_more (failed_calls self.old.fails self.old.calls) }
         ensures no_memory { IsErrOf result SinkErr.NoMemory →
             failed_calls self.new.fails self.new.calls ≡ failed_calls self.old.fails self.old.calls }
-        ensures reliable { self.old.fails ≡ [] →
-            (self.new.fails ≡ []) × (failed_calls self.new.fails self.new.calls ≡ failed_calls self.old.fails self.old.calls) }
+        ensures reliable { self.old.fails ≡ [] → (self.new.fails ≡ []) × (IsErrOf result SinkErr.Failed → ⊥) }
         ensures none_listed { self.old.fails ≡ [] → failed_calls self.new.fails self.new.calls ≡ 0 }
 
         ensures failing { IsErrOf result SinkErr.Failed ↔ Contains self.old.fails self.old.calls }

@@ -1,8 +1,9 @@
 //! What takes bytes.
 
-ghost use Rattle.std.specs.Prelude.{◌≡◌, ℕ, ◌<◌, ◌≤◌, List, length, take, Option, None, Some, IfOk, OnErr, IsErrOf};
+ghost use Rattle.std.specs.Prelude.{◌≡◌, ℕ, ◌<◌, ◌≤◌, List, length, take, Option, IfOk, OnOk, OnErr, IsErrOf};
+ghost use Rattle.std.specs.Io.KnownBytes.{Appends, Keeps};
 ghost use Rattle.tap_outside.specs.declared.sink.SinkErr.TheVariants.{NoMemory};
-ghost use Rattle.tap_outside.specs.Ends.{Appends, Rose};
+ghost use Rattle.tap_outside.specs.Ends.{one_more};
 
 use std::alloc::AllocError;
 
@@ -31,7 +32,7 @@ pub trait Sink {
     // How often it has failed. The count stands still at 2^64 - 1.
     ghost faults: { Self → ℕ };
 
-    // It never fails again.
+    // No call fails any more.
     ghost is_reliable: { Self → Type 0 } = { λ _. ⊥ };
 
     /// Takes bytes from the front of `piece`, at least one, and answers how many.
@@ -45,10 +46,10 @@ pub trait Sink {
 
         ensures some { IfOk result (λ n. (1 ≤ n) × (n ≤ length piece.now)) }
         ensures appended { IfOk result (λ n. Appends (written self.old) (written self.new) (take n piece.now)) }
-        ensures unchanged { OnErr result (written self.new ≡ written self.old) }
+        ensures unchanged { OnErr result (Keeps (written self.old) (written self.new)) }
 
-        ensures never_falls { faults self.old ≤ faults self.new }
-        ensures cause { IsErrOf result SinkErr.Failed → Rose (faults self.old) (faults self.new) }
+        ensures no_fault { OnOk result (faults self.new ≡ faults self.old) }
+        ensures fault { IsErrOf result SinkErr.Failed → faults self.new ≡ one_more (faults self.old) }
         ensures no_memory { IsErrOf result SinkErr.NoMemory → faults self.new ≡ faults self.old }
-        ensures reliable { is_reliable self.old → is_reliable self.new × (faults self.new ≡ faults self.old) };
+        ensures reliable { is_reliable self.old → is_reliable self.new × (IsErrOf result SinkErr.Failed → ⊥) };
 }

@@ -1,7 +1,8 @@
 //! What gives bytes.
 
-ghost use Rattle.std.specs.Prelude.{◌≡◌, ℕ, ◌<◌, ◌≤◌, List, length, take, Option, None, Some, IfOk, OnErr};
-ghost use Rattle.tap_outside.specs.Ends.{Takes, IsAtEnd, Rose};
+ghost use Rattle.std.specs.Prelude.{◌≡◌, ℕ, ◌<◌, ◌≤◌, List, length, take, Option, IfOk, OnOk, OnErr, IsOkAnd};
+ghost use Rattle.std.specs.Io.KnownBytes.{Consumes, IsAtEnd, Keeps};
+ghost use Rattle.tap_outside.specs.Ends.{one_more};
 
 /// A source or a sink failed.
 #[derive(Clone, Copy, Debug, PartialEq, Eq)]
@@ -15,8 +16,8 @@ pub trait Source {
     // How often it has failed. The count stands still at 2^64 - 1.
     ghost faults: { Self → ℕ };
 
-    // It never fails again.
-    ghost is_reliable: { Self → Type 0 } = { λ _. ⊥ };
+    // No call fails before one has told the end.
+    ghost ends_well: { Self → Type 0 } = { λ _. ⊥ };
 
     /// Puts bytes at the front of `room` and answers how many: 0 is the end, and comes only there.
     ///
@@ -28,11 +29,11 @@ pub trait Source {
         requires { 0 < length room.old }
 
         ensures fits { IfOk result (λ n. n ≤ length room.old) }
-        ensures taken { IfOk result (λ n. Takes (left self.old) (left self.new) (take n room.new)) }
-        ensures end { result ≡ Ok 0 → IsAtEnd (left self.old) }
-        ensures unchanged { OnErr result (left self.new ≡ left self.old) }
+        ensures taken { IfOk result (λ n. Consumes (left self.old) (left self.new) (take n room.new)) }
+        ensures end { IfOk result (λ n. n ≡ 0 → IsAtEnd (left self.new)) }
+        ensures unchanged { OnErr result (Keeps (left self.old) (left self.new)) }
 
-        ensures never_falls { faults self.old ≤ faults self.new }
-        ensures cause { OnErr result (Rose (faults self.old) (faults self.new)) }
-        ensures reliable { is_reliable self.old → is_reliable self.new × (faults self.new ≡ faults self.old) };
+        ensures no_fault { OnOk result (faults self.new ≡ faults self.old) }
+        ensures fault { OnErr result (faults self.new ≡ one_more (faults self.old)) }
+        ensures well { ends_well self.old → IsOkAnd result (λ n. 0 < n → ends_well self.new) };
 }
