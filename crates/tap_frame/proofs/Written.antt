@@ -1,9 +1,9 @@
 -- The text of a frame.
-use Rattle.std.proofs.Common.{◌≡◌, ℕ, suc, ◌+◌, ◌-◌, ◌≤◌, min, Bool, true, false, cond, List, [], ◌∷◌, ◌++◌, length, take, drop, Option, Some, None, refl, sym, ap, subst, ◌∙◌, inl, inr, take_at, take_all, append_assoc, arith}
+use Rattle.std.proofs.Common.{◌≡◌, ℕ, ◌+◌, ◌-◌, ◌≤◌, min, Bool, true, false, cond, List, [], ◌∷◌, ◌++◌, length, take, drop, Option, Some, None, refl, sym, ap, subst, ◌∙◌, inl, inr, take_at, take_all, append_assoc, arith}
 use Rattle.std.specs.Prelude.{unwrap_or, option_map, replicate, IsSome}
 use Rattle.std.proofs.Math.Seq.{take-append-add}
-use Rattle.std.proofs.lemmas.Bool.{cases_lt, lt-ltb, le-ltb}
-use Rattle.std.proofs.lemmas.List.{length-append, length-take, length-drop, length-replicate}
+use Rattle.std.proofs.lemmas.Bool.{cases_lt}
+use Rattle.std.proofs.lemmas.List.{length-append, length-replicate}
 use Rattle.tap_frame.specs.declared.shape.Shape.{Shape}
 use Rattle.tap_frame.specs.Header.{no_header}
 use Rattle.tap_frame.specs.Spelling.{pi_size, header_size, Spelled, behind_pi, behind_header, header_in, first_case}
@@ -11,15 +11,8 @@ use Rattle.tap_frame.specs.Text.{least_room, strip_flag, protocol, packet_inform
 use Rattle.tap_frame.proofs.Parts.{HasSize, behind_first, behind_second}
 use Rattle.tap_frame.proofs.Cases.{accepted_spells}
 
-protocol-length : (e : List ℕ) → length (protocol e) ≡ 2
-protocol-length e =
-    elim (cases_lt (length e) 14) [
-      | inl short ↦ rw (lt-ltb (length e) 14 short) refl
-      | inr long ↦ rw (le-ltb (length e) 14 long) (omega (arith, length-take 2 (drop 12 e), length-drop 12 e))
-    ]
-
 information-length : (pi : Bool) (flag : ℕ) (e : List ℕ) → length (cond pi (flag ∷ 0 ∷ protocol e) []) ≡ cond pi 4 0
-information-length true flag e = ap (λ n. suc (suc n)) (protocol-length e)
+information-length true flag e = refl
 information-length false flag e = refl
 
 padded-length : (size : Option ℕ) (h : List ℕ) → HasSize size → length h ≡ 10 → length (padded_header size h) ≡ unwrap_or size 0

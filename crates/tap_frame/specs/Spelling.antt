@@ -18,7 +18,8 @@ header_size shape = unwrap_or shape.hdr 0
 
 -- these bytes are the header of this shape whose first ten bytes are hdr
 abbrev pub IsHeader : Shape → List ℕ → List ℕ → Type 0
-IsHeader shape header hdr = MatchOption shape.hdr ((header ≡ []) × (hdr ≡ no_header)) (λ size. (length header ≡ size) × (hdr ≡ take 10 header))
+IsHeader shape header hdr =
+    MatchOption shape.hdr ((header ≡ []) × (hdr ≡ no_header)) (λ size. (length header ≡ size) × (hdr ≡ take 10 header))
 
 -- The bytes spell the frame ether with the header hdr: packet information of any value where the shape has
 -- it, the header where the shape has one, and the frame.

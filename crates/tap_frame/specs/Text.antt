@@ -1,6 +1,6 @@
 -- This project's own, after drivers/net/tun.c of Linux: the text of a frame where it is read from a
 -- file with some room.
-use Rattle.std.specs.Prelude.{ℕ, ◌+◌, ◌-◌, nat_lt, List, [], ◌∷◌, ◌++◌, length, take, slice_range, replicate, Option, Some, None, if◌then◌else◌}
+use Rattle.std.specs.Prelude.{ℕ, ◌+◌, ◌-◌, nat_lt, List, [], ◌∷◌, ◌++◌, length, take, slice_index, replicate, Option, Some, None, if◌then◌else◌}
 use Rattle.tap_frame.specs.declared.shape.Shape.{Shape}
 use Rattle.tap_frame.specs.Spelling.{pi_size, header_size}
 
@@ -12,9 +12,9 @@ least_room shape = pi_size shape + header_size shape
 abbrev pub strip_flag : Shape → List ℕ → ℕ → ℕ
 strip_flag shape ether room = if nat_lt room (least_room shape + length ether) then 1 else 0
 
--- the protocol of a frame: its bytes 12 and 13, or zeros where it is shorter than an Ethernet header
+-- the protocol of a frame: its bytes 12 and 13, each 0 where the frame doesn't have it
 abbrev pub protocol : List ℕ → List ℕ
-protocol ether = if nat_lt (length ether) 14 then 0 ∷ 0 ∷ [] else slice_range ether 12 14
+protocol ether = slice_index ether 12 ∷ slice_index ether 13 ∷ []
 
 -- packet information: le16 flags, and the protocol as it stands in the frame
 abbrev pub packet_information : Shape → List ℕ → ℕ → List ℕ

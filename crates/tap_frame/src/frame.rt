@@ -24,7 +24,8 @@ impl Model for Frame {
 
     ghost view = { λ f. record { name = f.name; hdr = f.hdr.bytes; made = f.bytes.items; mark = f.mark } };
 
-    ghost invariant = { λ f. IsFrame (record { name = f.name; hdr = f.hdr.bytes; made = f.bytes.items; mark = f.mark }) };
+    ghost invariant = { λ f.
+        IsFrame (record { name = f.name; hdr = f.hdr.bytes; made = f.bytes.items; mark = f.mark }) };
 }
 
 impl Frame {

@@ -1,7 +1,8 @@
 //! The header in front of a frame.
 
-ghost use Rattle.std.specs.Prelude.{◌≡◌, ◌+◌, ◌^◌, ◌<◌};
-ghost use Rattle.tap_frame.specs.Header.{le16_at, header_reach, no_header};
+ghost use Rattle.std.specs.Prelude.{◌≡◌, ◌+◌, ◌^◌, ◌<◌, slice_range};
+ghost use Rattle.std.specs.Int.{w16, from_le_bytes};
+ghost use Rattle.tap_frame.specs.Header.{header_reach, no_header};
 
 // The flag that asks for a checksum.
 const NEEDS_CSUM: u8 = 1;
@@ -38,7 +39,7 @@ impl Hdr {
 // The le16 number at a place.
 fn le16(header: &[u8; 10], place: usize) -> u32
     requires { place < 9 }
-    ensures value { result ≡ le16_at header.now place }
+    ensures value { result ≡ from_le_bytes w16 (slice_range header.now place (place + 2)) }
     ensures small { result < 2 ^ 16 }
 {
     u32::from(u16::from_le_bytes([header[place], header[place + 1]]))

@@ -1,3 +1,5 @@
+//! Frames read, written, cut and spent.
+
 use crate::{BadFrame, Hdr, Name, Shape, least, read_frame, write_frame};
 use std::alloc::{AllocError, Global};
 use std::test::Fail;
@@ -104,7 +106,7 @@ fn refuses_the_first_case(rt: HostRuntime) -> Result<(), Fail> {
 }
 
 // The front of a frame from 02:00:00:00:00:01 to 02:00:00:00:00:02, and 46 zeros.
-const ETHER: [u8; 14] = [2, 0, 0, 0, 0, 1, 2, 0, 0, 0, 0, 2, 8, 0];
+const ETHER: [u8; 14] = [2, 0, 0, 0, 0, 1, 2, 0, 0, 0, 0, 2, 8, 6];
 
 // Reads a frame of 60 bytes with a header of 10, cuts it where asked, writes it where the room is
 // enough, and ends it.
@@ -153,22 +155,34 @@ fn writes_what_the_room_holds(rt: HostRuntime) -> Result<(), Fail> {
             pi,
             None,
             20,
-            [1, 0, 8, 0, 2, 0, 0, 0, 0, 1, 2, 0, 0, 0, 0, 2, 8, 0, 0, 0].as_slice(),
+            [1, 0, 8, 6, 2, 0, 0, 0, 0, 1, 2, 0, 0, 0, 0, 2, 8, 6, 0, 0].as_slice(),
         ),
-        (pi, None, 4, &[1, 0, 8, 0]),
+        (pi, None, 4, &[1, 0, 8, 6]),
         (pi, Some(5), 9, &[0, 0, 0, 0, 2, 0, 0, 0, 0]),
         (pi, Some(5), 8, &[1, 0, 0, 0, 2, 0, 0, 0]),
         (
             pi,
             Some(14),
             100,
-            &[0, 0, 8, 0, 2, 0, 0, 0, 0, 1, 2, 0, 0, 0, 0, 2, 8, 0],
+            &[0, 0, 8, 6, 2, 0, 0, 0, 0, 1, 2, 0, 0, 0, 0, 2, 8, 6],
+        ),
+        (
+            pi,
+            Some(13),
+            100,
+            &[0, 0, 8, 0, 2, 0, 0, 0, 0, 1, 2, 0, 0, 0, 0, 2, 8],
+        ),
+        (
+            pi,
+            Some(12),
+            100,
+            &[0, 0, 0, 0, 2, 0, 0, 0, 0, 1, 2, 0, 0, 0, 0, 2],
         ),
         (
             both,
             Some(13),
             17,
-            &[1, 0, 0, 0, 0, 11, 0, 0, 14, 15, 16, 17, 18, 19, 0, 0, 2],
+            &[1, 0, 8, 0, 0, 11, 0, 0, 14, 15, 16, 17, 18, 19, 0, 0, 2],
         ),
     ] {
         let got = written(rt.alloc(), shape, cut, room)?;

@@ -1,6 +1,6 @@
 //! A frame as bytes.
 
-ghost use Rattle.std.specs.Prelude.{◌≡◌, ◌++◌, ◌∷◌, [], ◌≤◌, length, replicate, IfOk, OnOk};
+ghost use Rattle.std.specs.Prelude.{◌≡◌, ◌++◌, ◌∷◌, [], ◌≤◌, length, replicate, slice_index, IfOk, OnOk};
 ghost use Rattle.tap_frame.specs.Frame.{bytes_of};
 ghost use Rattle.tap_frame.specs.Text.{least_room, packet_information, padded_header, protocol, text};
 
@@ -23,7 +23,7 @@ pub fn least(shape: Shape) -> usize
 /// The first `room` bytes of packet information, header and frame.
 ///
 /// The flags of the packet information are `TUN_PKT_STRIP`, 1, where the whole is more than `room`,
-/// and else 0. Its protocol is bytes 12 and 13 of the frame, or 0 where the frame has fewer than 14.
+/// and else 0. Its protocol is bytes 12 and 13 of the frame, each 0 where the frame doesn't have it.
 /// The header is the kept ten bytes, and zeros.
 ///
 /// # Errors
@@ -85,13 +85,16 @@ fn zeros(count: usize) -> &'static [u8]
     &PADDING[..count]
 }
 
-// The two bytes of the protocol, or zeros.
+// The two bytes of the protocol.
 fn protocol_of(frame: &[u8]) -> [u8; 2]
     ensures { result ≡ protocol frame.now }
 {
-    if frame.len() < 14 {
-        [0, 0]
-    } else {
-        [frame[12], frame[13]]
-    }
+    [byte_or_zero(frame, 12), byte_or_zero(frame, 13)]
+}
+
+// The byte at a place, or 0 where the frame doesn't have it.
+fn byte_or_zero(frame: &[u8], place: usize) -> u8
+    ensures { result ≡ slice_index frame.now place }
+{
+    frame.get(place).copied().unwrap_or(0)
 }
