@@ -1,0 +1,7 @@
+pub mod Fate
+pub mod Counters
+pub mod Queue
+pub mod Host
+pub mod Laws
+pub mod Memory
+pub mod MemoryRoom
