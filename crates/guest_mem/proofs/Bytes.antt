@@ -1,95 +1,73 @@
--- The map that blocks make, and what a write of blocks makes of it.
-use Rattle.std.proofs.Common.{◌≡◌, ◌≢◌, ℕ, suc, ◌+◌, ◌-◌, ◌^◌, ◌<◌, ◌≤◌, ◌⊎◌, inl, inr, ◌&&◌, Bool, true, false, cond, not, nat_lt, nat_le, List, [], ◌∷◌, ◌++◌, length, get_or, Option, Some, None, is_some, is_none, IsSome, IfSome, IfNone, refl, sym, ap, ◌∙◌, subst, arith}
-use Rattle.std.specs.Ordering.{nat_cmp, eq_by_cmp}
-use Rattle.std.specs.Cmp.{nat_cmp_total}
-use Rattle.std.specs.FinMap.{get, find, get-from_entries}
-use Rattle.std.proofs.lemmas.Bool.Decides.{nat_tests, Decides-below_and}
-use Rattle.std.specs.Bool.{Decides}
+-- The list of bytes that blocks make, and what a write of blocks makes of it.
+use Rattle.std.proofs.Common.{◌≡◌, ℕ, ◌+◌, ◌-◌, ◌<◌, ◌≤◌, ◌⊎◌, inl, inr, ◌&&◌, Bool, true, false, cond, nat_lt, nat_le, List, [], ◌∷◌, length, get_or, Option, Some, None, is_some, IsSome, unwrap_or, refl, sym, ap, ◌∙◌, subst, arith}
+use Rattle.std.proofs.lemmas.Bool.Decides.{nat_tests}
 use Rattle.guest_mem.specs.declared.block.Block.{Block}
-use Rattle.guest_mem.specs.Memory.{ByteMap, byte_at, is_covered, Covers, CoversBy, HoldsBy, IsFirstBadBy, WrittenBy}
-use Rattle.guest_mem.specs.Blocks.{end_of, has_addr, byte_of, byte_in, AreApart, entries_from, entries_of, map_of, AreWritten}
-use Rattle.guest_mem.proofs.Sorted.{ends, unheld}
+use Rattle.guest_mem.specs.declared.region.Region.{Region}
+use Rattle.guest_mem.specs.Memory.{ByteList, is_there, value_at, look, with_bytes, covers, CoversBy, WrittenBy, AreStored}
+use Rattle.guest_mem.specs.Blocks.{end_of, has_addr, byte_of, byte_in, bytes_of, AreApart, AreWritten, IsKept}
+use Rattle.guest_mem.proofs.Lists.{inside, value_at-nonzero_append, value_at-with_bytes, stored_lower, stored_nonzero, stored_with_bytes, same_list}
+use Rattle.guest_mem.proofs.Gaps.{inside_on, covers-there}
 
--- what the entries of one block, and of others after it, have at an address
-find_from : (a : ℕ) (xs : List ℕ) (es : List (ℕ × ℕ)) (q : ℕ) → find nat_cmp q (entries_from a xs ++ es) ≡ cond (nat_le a q && nat_lt q (a + length xs)) (Some (get_or xs (q - a) 0)) (find nat_cmp q es)
-find_from a [] es q =
-    let off : (nat_le a q && nat_lt q (a + 0)) ≡ false = grind (arith, nat_tests) in
-    ap (λ t. cond t (Some 0) (find nat_cmp q es)) (sym off)
-find_from a (x ∷ xs) es q = elim (cases a q (length xs)) [
-  | inl e ↦
-      let here : eq_by_cmp nat_cmp q a ≡ true = same q a (sym e.0) in
-      ap (λ t. cond t (Some x) (find nat_cmp q (entries_from (a + 1) xs ++ es))) here
-      ∙ ap (λ n. Some (get_or (x ∷ xs) n 0)) e.1
-      ∙ ap (λ t. cond t (Some (get_or (x ∷ xs) (q - a) 0)) (find nat_cmp q es)) (sym e.2)
-  | inr e ↦
-      let off : eq_by_cmp nat_cmp q a ≡ false = apart q a (λ p. e.0 (sym p)) in
-      ap (λ t. cond t (Some x) (find nat_cmp q (entries_from (a + 1) xs ++ es))) off
-      ∙ find_from (a + 1) xs es q
-      ∙ choose (nat_le (a + 1) q && nat_lt q (a + 1 + length xs)) (nat_le a q && nat_lt q (a + length (x ∷ xs))) (get_or xs (q - (a + 1)) 0) (get_or (x ∷ xs) (q - a) 0) (find nat_cmp q es) e.1
-      (λ t. step x xs q a (e.2 t))
-]
+-- below the first block there is nothing
+byte_in-low : (low : ℕ) (bs : List Block) (q : ℕ) → AreApart low bs → q < low → byte_in bs q ≡ None
+byte_in-low low [] q h lt = refl
+byte_in-low low (b ∷ bs) q h lt =
+    let first = h.0 in
+    let some = h.1 in
+    ap (λ t. cond t (Some (byte_of b q)) (byte_in bs q)) (off b q (omega arith)) ∙ byte_in-low (end_of b) bs q h.3 (omega arith)
   where
-    cases : (a q n : ℕ) → ((a ≡ q) × (0 ≡ q - a) × ((nat_le a q && nat_lt q (a + suc n)) ≡ true)) ⊎ ((a ≢ q) × ((nat_le (a + 1) q && nat_lt q (a + 1 + n)) ≡ (nat_le a q && nat_lt q (a + suc n))) × ((nat_le a q && nat_lt q (a + suc n)) ≡ true → a < q))
-    cases a q n = grind (arith, nat_tests)
+    off : (b : Block) (q : ℕ) → q < b.addr → has_addr b q ≡ false
+    off b q lt = grind (arith, nat_tests)
 
-    same : (q a : ℕ) → q ≡ a → eq_by_cmp nat_cmp q a ≡ true
-    same q a e = grind (arith, nat_tests)
-
-    apart : (q a : ℕ) → q ≢ a → eq_by_cmp nat_cmp q a ≡ false
-    apart q a e = grind (arith, nat_tests)
-
-    choose : (b c : Bool) (x y : ℕ) (o : Option ℕ) → b ≡ c → (c ≡ true → x ≡ y) → cond b (Some x) o ≡ cond c (Some y) o
-    choose b true x y o e h = ap (λ t. cond t (Some x) o) e ∙ ap (λ n. Some n) (h refl)
-    choose b false x y o e h = ap (λ t. cond t (Some x) o) e
-
-    step : (x : ℕ) (xs : List ℕ) (q a : ℕ) → a < q → get_or xs (q - (a + 1)) 0 ≡ get_or (x ∷ xs) (q - a) 0
-    step x xs q a lt = let e : suc (q - (a + 1)) ≡ q - a = omega arith in ap (λ n. get_or (x ∷ xs) n 0) e
-
-find_entries : (bs : List Block) (q : ℕ) → find nat_cmp q (entries_of bs) ≡ byte_in bs q
-find_entries [] q = refl
-find_entries (b ∷ bs) q = find_from b.addr b.bytes.items (entries_of bs) q ∙ ap (λ o. cond (has_addr b q) (Some (byte_of b q)) o) (find_entries bs q)
-
-get_map : (bs : List Block) (q : ℕ) → get (map_of bs) q ≡ byte_in bs q
-unfolding map_of
-get_map bs q = get-from_entries nat_cmp_total (entries_of bs) q ∙ find_entries bs q
-
--- the byte at an address of a memory that is kept in blocks
-pub byte_at-map_of : (bs : List Block) (x : ℕ) → AreApart 0 bs → byte_at (map_of bs) x ≡ byte_in bs x
-unfolding byte_at
-byte_at-map_of bs x h = elim (cases x) [
-  | inl on ↦ ap (λ t. cond t (get (map_of bs) x) None) on ∙ get_map bs x
-  | inr off ↦ ap (λ t. cond t (get (map_of bs) x) None) off.0 ∙ sym (unheld bs x (λ k d l. let e = ends 0 bs k d h l in past (get_or bs k d) x e off.1))
-]
+-- the list has the bytes of the blocks
+pub value_at-bytes_of : (low : ℕ) (bs : List Block) (q : ℕ) → AreApart low bs → value_at (bytes_of bs) q ≡ unwrap_or (byte_in bs q) 0
+unfolding bytes_of
+value_at-bytes_of low [] q h = refl
+value_at-bytes_of low (b ∷ bs) q h =
+    let rest = value_at-bytes_of (end_of b) bs q h.3 in
+    value_at-nonzero_append b.addr b.bytes.items (bytes_of bs) q (λ t. rest ∙ ap (λ o. unwrap_or o 0) (byte_in-low (end_of b) bs q h.3 (below b q t)))
+    ∙ ap (λ v. cond (has_addr b q) (byte_of b q) v) rest
+    ∙ choose (has_addr b q) (byte_of b q) (byte_in bs q)
   where
-    cases : (x : ℕ) → (nat_lt x (2 ^ 64 - 1) ≡ true) ⊎ ((nat_lt x (2 ^ 64 - 1) ≡ false) × (2 ^ 64 - 1 ≤ x))
-    cases x = grind (arith, nat_tests)
+    below : (b : Block) (q : ℕ) → has_addr b q ≡ true → q < end_of b
+    below b q t = grind (arith, nat_tests)
 
-    past : (b : Block) (x : ℕ) → end_of b < 2 ^ 64 → 2 ^ 64 - 1 ≤ x → has_addr b x ≡ false
-    past b x e h = grind (arith, nat_tests)
+    choose : (t : Bool) (v : ℕ) (o : Option ℕ) → cond t v (unwrap_or o 0) ≡ unwrap_or (cond t (Some v) o) 0
+    choose true v o = refl
+    choose false v o = refl
 
-pub same_bytes : (m : ByteMap) (bs : List Block) → map_of bs ≡ m → AreApart 0 bs → byte_at m ≡ byte_in bs
-same_bytes m bs e h = ap byte_at (sym e) ∙ (λ i x. byte_at-map_of bs x h i)
+-- and is kept in the regions, where they have the blocks' addresses
+stored_bytes_of : (rs : List Region) (low : ℕ) (bs : List Block) → AreApart low bs → ((q : ℕ) → is_some (byte_in bs q) ≡ true → is_there rs q ≡ true) → AreStored rs low (bytes_of bs)
+unfolding bytes_of
+stored_bytes_of rs low [] h there = tt
+stored_bytes_of rs low (b ∷ bs) h there =
+    stored_lower rs b.addr low _
+    (stored_nonzero rs b.addr b.bytes.items (bytes_of bs)
+    (stored_bytes_of rs (end_of b) bs h.3 (λ q some. there q (any (has_addr b q) (byte_of b q) (byte_in bs q) some)))
+    (λ k lt. there (b.addr + k) (ap is_some (ap (λ t. cond t (Some (byte_of b (b.addr + k))) (byte_in bs (b.addr + k))) (inside_on b.addr (length b.bytes.items) k lt)))))
+    h.0
+  where
+    any : (t : Bool) (v : ℕ) (o : Option ℕ) → is_some o ≡ true → is_some (cond t (Some v) o) ≡ true
+    any true v o e = refl
+    any false v o e = e
 
--- no range with a bad byte is covered
-pub not_covered : (look : ℕ → Option ℕ) (a n bad : ℕ) → IsFirstBadBy look a n bad → CoversBy look a n → ⊥
-not_covered look a n bad h covered =
-    let start = h.start in
-    let within = h.within in
-    let there = covered (bad - a) (omega arith) in
-    let e : a + (bad - a) ≡ bad = omega arith in
-    let none : look (a + (bad - a)) ≡ None = ap look e ∙ h.missing in
-    let contra : is_some (look (a + (bad - a))) ≡ false = ap is_some none in
-    absurd (cc)
+pub stored_blocks : (rs : List Region) (bs : List Block) → IsKept rs bs → AreStored rs 0 (bytes_of bs)
+stored_blocks rs bs h = stored_bytes_of rs 0 bs h.apart (λ q some. sym (h.domain q) ∙ some)
 
--- whether there is no first bad byte says whether the range is covered
-pub covered_test : (o : Option ℕ) (look : ℕ → Option ℕ) (a n : ℕ) → IfSome o (IsFirstBadBy look a n) → IfNone o (CoversBy look a n) → Decides (is_none o) (CoversBy look a n)
-covered_test None look a n bad covered = (λ e. covered, λ c. refl)
-covered_test (Some x) look a n bad covered = (λ e. absurd (cc), λ c. absurd (not_covered look a n x bad c))
+-- what is looked up are the blocks' bytes
+pub look-blocks : (rs : List Region) (bs : List Block) → IsKept rs bs → look rs (bytes_of bs) ≡ byte_in bs
+unfolding look
+look-blocks rs bs h = λ i x. at x i
+  where
+    some_or_none : (o : Option ℕ) → cond (is_some o) (Some (unwrap_or o 0)) None ≡ o
+    some_or_none None = refl
+    some_or_none (Some v) = refl
 
--- the test of a range says whether it is covered
-pub is_covered-Decides : (m : ByteMap) (a n : ℕ) → Decides (is_covered m a n) (Covers m a n)
-unfolding is_covered
-is_covered-Decides m a n = Decides-below_and (λ k. is_some (byte_at m (a + k))) (λ k. IsSome (byte_at m (a + k))) (is_covered m a) (λ k. (λ e. e, λ e. e)) refl (λ k. refl) n
+    at : (x : ℕ) → cond (is_there rs x) (Some (value_at (bytes_of bs) x)) None ≡ byte_in bs x
+    at x =
+        ap (λ t. cond t (Some (value_at (bytes_of bs) x)) None) (sym (h.domain x))
+        ∙ ap (λ v. cond (is_some (byte_in bs x)) (Some v) None) (value_at-bytes_of 0 bs x h.apart)
+        ∙ some_or_none (byte_in bs x)
 
 -- the blocks keep their places
 pub written_apart : (low : ℕ) (old new : List Block) (a : ℕ) (bytes : List ℕ) → AreApart low old → AreWritten old new a bytes → AreApart low new
@@ -166,13 +144,63 @@ written_bytes old new a bytes covered w = record {
     some (Some v) true n = refl
     some (Some v) false n = refl
 
--- the test of an option, from the other one
-pub none_from_not_some : (o : Option ℕ) (b : Bool) → is_some o ≡ not b → is_none o ≡ b
-none_from_not_some None true e = refl
-none_from_not_some None false e = absurd (cc)
-none_from_not_some (Some x) true e = absurd (cc)
-none_from_not_some (Some x) false e = refl
+-- after a write the blocks are kept in the same regions
+pub kept_written : (rs : List Region) (old new : List Block) (a : ℕ) (bytes : List ℕ) → IsKept rs old → AreWritten old new a bytes → CoversBy (byte_in old) a (length bytes) → IsKept rs new
+kept_written rs old new a bytes h w covered = record {
+  regions = h.regions;
+  apart = written_apart 0 old new a bytes h.apart w;
+  domain = λ x. (written_bytes old new a bytes covered w).same_domain x ∙ h.domain x;
+}
 
--- bytes that stand there cover their addresses
-pub held_covers : (look : ℕ → Option ℕ) (a : ℕ) (bytes : List ℕ) → HoldsBy look a bytes → CoversBy look a (length bytes)
-held_covers look a bytes h k l = subst (λ o. IsSome o) (sym (h k l)) refl
+-- and their list is that of the write
+pub bytes_of-written : (rs : List Region) (old new : List Block) (a : ℕ) (bytes : List ℕ) → IsKept rs old → AreWritten old new a bytes → CoversBy (byte_in old) a (length bytes)
+    → bytes_of new ≡ with_bytes (bytes_of old) a bytes
+bytes_of-written rs old new a bytes h w covered =
+    let kept = kept_written rs old new a bytes h w covered in
+    same_list rs 0 (bytes_of new) (with_bytes (bytes_of old) a bytes) (stored_blocks rs new kept)
+    (stored_with_bytes rs (bytes_of old) a bytes (stored_blocks rs old h) (λ k lt. sym (h.domain (a + k)) ∙ covered k lt))
+    (λ q. value_at-bytes_of 0 new q kept.apart
+    ∙ ap (λ o. unwrap_or o 0) (written_byte old new a bytes q w)
+    ∙ by_cases (inside a (length bytes) q) (get_or bytes (q - a) 0) (byte_in old q) (λ t. some_at q t)
+    ∙ ap (λ v. cond (inside a (length bytes) q) (get_or bytes (q - a) 0) v) (sym (value_at-bytes_of 0 old q h.apart))
+    ∙ sym (value_at-with_bytes (bytes_of old) a bytes q))
+  where
+    by_cases : (t : Bool) (v : ℕ) (o : Option ℕ) → (t ≡ true → is_some o ≡ true) → unwrap_or (cond (is_some o) (cond t (Some v) o) None) 0 ≡ cond t v (unwrap_or o 0)
+    by_cases true v None e = let contra = e refl in absurd (cc)
+    by_cases true v (Some x) e = refl
+    by_cases false v None e = refl
+    by_cases false v (Some x) e = refl
+
+    place : (a n q : ℕ) → inside a n q ≡ true → (q - a < n) × (a + (q - a) ≡ q)
+    place a n q t = let range : (a ≤ q) × (q < a + n) = grind (arith, nat_tests) in (omega (arith, range.0, range.1), omega (arith, range.0))
+
+    some_at : (q : ℕ) → inside a (length bytes) q ≡ true → is_some (byte_in old q) ≡ true
+    some_at q t = let at = place a (length bytes) q t in subst (λ x. IsSome (byte_in old x)) at.1 (covered (q - a) at.0)
+
+-- a write into a list is a write of the bytes
+pub writes_bytes : (rs : List Region) (bs : ByteList) (a : ℕ) (xs : List ℕ) → covers rs a (length xs) ≡ true → WrittenBy (look rs bs) (look rs (with_bytes bs a xs)) a xs
+unfolding look
+writes_bytes rs bs a xs h = record {
+  written = λ k lt.
+      ap (λ t. cond t (Some (value_at (with_bytes bs a xs) (a + k))) None) (covers-there rs a (length xs) h k lt)
+      ∙ ap (λ v. Some v) (value_at-with_bytes bs a xs (a + k) ∙ ap (λ t. cond t (get_or xs (a + k - a) 0) (value_at bs (a + k))) (inside_on a (length xs) k lt) ∙ ap (λ n. get_or xs n 0) (minus a k));
+  before = λ x lt. same x (off_low a (length xs) x lt);
+  after = λ x le. same x (off_high a (length xs) x le);
+  same_domain = λ x. any (is_there rs x) (value_at (with_bytes bs a xs) x) (value_at bs x);
+}
+  where
+    minus : (a k : ℕ) → a + k - a ≡ k
+    minus a k = omega arith
+
+    off_low : (a n x : ℕ) → x < a → inside a n x ≡ false
+    off_low a n x lt = grind (arith, nat_tests)
+
+    off_high : (a n x : ℕ) → a + n ≤ x → inside a n x ≡ false
+    off_high a n x le = grind (arith, nat_tests)
+
+    same : (x : ℕ) → inside a (length xs) x ≡ false → cond (is_there rs x) (Some (value_at (with_bytes bs a xs) x)) None ≡ cond (is_there rs x) (Some (value_at bs x)) None
+    same x off = ap (λ v. cond (is_there rs x) (Some v) None) (value_at-with_bytes bs a xs x ∙ ap (λ t. cond t (get_or xs (x - a) 0) (value_at bs x)) off)
+
+    any : (t : Bool) (v w : ℕ) → is_some (cond t (Some v) None) ≡ is_some (cond t (Some w) None)
+    any true v w = refl
+    any false v w = refl

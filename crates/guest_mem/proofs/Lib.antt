@@ -1,6 +1,10 @@
 pub mod Windows
 pub mod Sorted
 pub mod Writes
+pub mod Lists
+pub mod Gaps
 pub mod Bytes
 pub mod Inserts
 pub mod Ranges
+pub mod Kept
+pub mod Parts

@@ -1,3 +1,5 @@
 pub mod Memory
 pub mod Blocks
 pub mod Regions
+pub mod Laws
+pub mod Examples

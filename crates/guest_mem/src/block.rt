@@ -1,27 +1,30 @@
-ghost use Rattle.std.specs.Prelude.{◌≡◌, ℕ, ◌+◌, ◌-◌, ◌^◌, ◌<◌, ◌≤◌, ◌&&◌, nat_lt, nat_le, length, slice_index, replicate, IfOk, if◌then◌else◌};
-ghost use Rattle.guest_mem.specs.Blocks.{end_of, has_addr, byte_of, IsWrittenBlock};
+//! The bytes of one region.
+ghost use Rattle.std.specs.Prelude.{◌≡◌, ℕ, ◌+◌, ◌^◌, ◌<◌, ◌≤◌, length, slice_index, replicate, IfOk};
+ghost use Rattle.guest_mem.specs.Blocks.{end_of, spliced_byte, copied_byte, IsWrittenBlock};
 
 use crate::region::Region;
 use std::alloc::{AllocError, Global};
 
-// The bytes of a region.
+/// The bytes of a region.
 #[derive(Debug, Drop)]
 pub struct Block {
-    // The first address.
+    /// The first address.
     pub addr: u64,
+    /// The bytes from there on.
     pub bytes: Vec<u8>,
 }
 
-// Writes the source into the target from a place on.
+/// Writes the source into the target from a place on.
 fn splice(target: &mut [u8], at: usize, source: &[u8])
     requires { at + length source.now ≤ length target.old }
-    ensures { (k : ℕ) → k < length target.old → slice_index target.new k ≡ (if nat_le at k && nat_lt k (at + length source.now) then slice_index source.now (k - at) else slice_index target.old k) }
+    ensures { (k : ℕ) → k < length target.old
+        → slice_index target.new k ≡ spliced_byte target.old at source.now k }
 {
     target[at..at + source.len()].copy_from_slice(source);
 }
 
 impl Block {
-    // The block of a region, each byte 0.
+    /// The block of a region, each byte 0.
     pub fn zeroed(alloc: Global, region: &Region) -> Result<Block, AllocError>
         ensures addr { IfOk result (λ b. b.addr ≡ region.now.addr) }
         ensures bytes { IfOk result (λ b. b.bytes.items ≡ replicate region.now.len 0) }
@@ -32,7 +35,7 @@ impl Block {
         })
     }
 
-    // The first address after the block.
+    /// The first address after the block.
     pub fn end(&self) -> u64
         requires { end_of self.now < 2 ^ 64 }
         ensures { result ≡ end_of self.now }
@@ -40,10 +43,11 @@ impl Block {
         self.addr + self.bytes.len() as u64
     }
 
-    // Copies into the room, which stands for the addresses from `addr` on, what the block has of it.
+    /// Copies into the room, which stands for the addresses from `addr` on, what the block has of it.
     pub fn read(&self, addr: u64, room: &mut [u8])
         requires { end_of self.now < 2 ^ 64 }
-        ensures { (k : ℕ) → k < length room.old → slice_index room.new k ≡ (if has_addr self.now (addr + k) then byte_of self.now (addr + k) else slice_index room.old k) }
+        ensures { (k : ℕ) → k < length room.old
+            → slice_index room.new k ≡ copied_byte self.now addr room.old k }
     {
         let start = self.addr.max(addr);
         let end = self.end().min(addr.saturating_add(room.len() as u64));
@@ -54,7 +58,7 @@ impl Block {
         }
     }
 
-    // Copies into the block what it has of the bytes, which stand for the addresses from `addr` on.
+    /// Copies into the block what it has of the bytes, which stand for the addresses from `addr` on.
     pub fn write(&mut self, addr: u64, bytes: &[u8])
         requires { end_of self.old < 2 ^ 64 }
         ensures { IsWrittenBlock self.old self.new addr bytes.now }

@@ -1,33 +1,30 @@
-ghost use Rattle.std.specs.Prelude.{◌≡◌, ◌+◌, ◌^◌, ◌<◌, ◌↔◌, IsTrue, IsOk, IfOk, IfErr, OnOk, OnErr, IsOkUnless, IsErrOf, MatchOption, length};
-ghost use Rattle.guest_mem.specs.Memory.{Covers, Holds, IsFirstBad, Written, bytes_at, is_covered};
-ghost use Rattle.guest_mem.specs.Regions.{refusal, IsZeroed};
+//! The memory of a guest.
+ghost use Rattle.std.specs.Prelude.{◌≡◌, ◌+◌, ◌^◌, ◌<◌, Some, IsTrue, is_ok, IfOk, IfErr, OnOk, OnErr, IsOkUnless, IsErrOf, MatchOption, length};
+ghost use Rattle.guest_mem.specs.Memory.{byte_at, bytes_at, bytes_from, first_bad, covers, written};
+ghost use Rattle.guest_mem.specs.Regions.{refusal, zeroed, IsSound};
 
 use crate::block::Block;
-use crate::region::{Region, RegionFault};
-use crate::{build, region, span};
+use crate::region::{Region, RegionFault, region_fault};
+use crate::{build, span};
 use std::alloc::Global;
 use std::marker::Model;
 
 /// The memory of a guest.
 #[derive(Debug, Drop)]
 pub struct Memory {
+    regions: Vec<Region>,
     blocks: Vec<Block>,
 }
 
 impl Model for Memory {
-    ghost use Rattle.std.specs.Ordering.{nat_cmp};
-    ghost use Rattle.std.specs.FinMap as map;
-    ghost use Rattle.std.specs.Coded.{coded_ℕ};
-    ghost use Rattle.std.specs.Prelude.{ℕ};
-    ghost use Rattle.guest_mem.specs.Blocks.{map_of, AreApart};
+    ghost use Rattle.guest_mem.specs.Memory.{Contents};
+    ghost use Rattle.guest_mem.specs.Blocks.{bytes_of, IsKept};
 
-    ghost Value = { map.FinMap nat_cmp ℕ };
+    ghost Value = { Contents };
 
-    ghost coded = { map.code coded_ℕ coded_ℕ };
+    ghost view = { λ m. record { regions = m.regions.items; bytes = bytes_of m.blocks.items } };
 
-    ghost view = { λ m. map_of m.blocks.items };
-
-    ghost invariant = { λ m. AreApart 0 m.blocks.items };
+    ghost invariant = { λ m. IsKept m.regions.items m.blocks.items };
 }
 
 /// A read or a write that leaves the memory.
@@ -38,40 +35,52 @@ pub struct OutOfRange {
 }
 
 impl Memory {
-    /// The memory of these regions, each byte 0, or the first reason why they make none: more than 64
-    /// regions; then of each region in turn that it is empty, that it reaches the last address, or
-    /// that it shares a byte with an earlier one; and last more than 16 MiB together.
+    /// The memory of these regions, each byte 0, or the reason why they make none, as `region_fault`
+    /// gives it.
     pub fn new(alloc: Global, regions: &[Region]) -> Result<Memory, RegionFault>
         ensures refused { MatchOption (refusal regions.now) (IsOkUnless result RegionFault.NoMemory) (IsErrOf result) }
-        ensures zeroed { IfOk result (IsZeroed regions.now) }
+        ensures zeroed { IfOk result (λ memory. memory ≡ zeroed regions.now) }
     {
-        if let Some(fault) = region::refusal(regions) {
+        if let Some(fault) = region_fault(regions) {
             return Err(fault);
         }
-        match build::lay_out(alloc, regions) {
-            Ok(blocks) => Ok(Memory { blocks }),
-            Err(_) => Err(RegionFault::NoMemory),
-        }
+        let blocks = build::lay_out(alloc, regions).map_err(|_| RegionFault::NoMemory)?;
+        let regions = Vec::from_slice(alloc, regions).map_err(|_| RegionFault::NoMemory)?;
+        Ok(Memory { regions, blocks })
+    }
+
+    /// Its regions, as they were given.
+    pub fn regions(&self) -> &[Region]
+        ensures regions { result.now ≡ self.now.regions }
+        ensures sound { IsSound self.now }
+    {
+        self.regions.as_slice()
     }
 
     /// Whether each of the `len` addresses from `addr` on is in a region.
     pub fn covers(&self, addr: u64, len: u64) -> bool
-        ensures covered { IsTrue result ↔ Covers self.now addr len }
-        ensures test { result ≡ is_covered self.now addr len }
+        ensures covered { result ≡ covers self.now.regions addr len }
         ensures fits { IsTrue result → 0 < len → addr + len < 2 ^ 64 }
     {
-        span::first_gap(&self.blocks, addr, len).is_none()
+        self.first_bad(addr, len).is_none()
+    }
+
+    /// The first of the `len` addresses from `addr` on that is in no region.
+    pub fn first_bad(&self, addr: u64, len: u64) -> Option<u64>
+        ensures { result ≡ first_bad self.now.regions addr len }
+    {
+        span::first_gap(&self.blocks, addr, len)
     }
 
     /// Fills the room with the bytes from `addr` on, which may lie in several regions that touch.
     pub fn read(&self, addr: u64, room: &mut [u8]) -> Result<(), OutOfRange>
-        ensures ok { OnOk result (Holds self.now addr room.new) }
-        ensures bytes { OnOk result (room.new ≡ bytes_at self.now addr (length room.old)) }
-        ensures covered { IsOk result ↔ Covers self.now addr (length room.old) }
-        ensures bad { IfErr result (λ e. IsFirstBad self.now addr (length room.old) e.first_bad) }
+        ensures covered { is_ok result ≡ covers self.now.regions addr (length room.old) }
+        ensures bytes { OnOk result (room.new ≡ bytes_from self.now.bytes addr (length room.old)) }
+        ensures looked_up { OnOk result (room.new ≡ bytes_at (byte_at self.now) addr (length room.old)) }
+        ensures bad { IfErr result (λ e. first_bad self.now.regions addr (length room.old) ≡ Some e.first_bad) }
         ensures room_unchanged { OnErr result (room.new ≡ room.old) }
     {
-        if let Some(first_bad) = span::first_gap(&self.blocks, addr, room.len() as u64) {
+        if let Some(first_bad) = self.first_bad(addr, room.len() as u64) {
             return Err(OutOfRange { first_bad });
         }
         span::copy_out(&self.blocks, addr, room);
@@ -80,12 +89,12 @@ impl Memory {
 
     /// Writes the bytes from `addr` on, which may lie in several regions that touch.
     pub fn write(&mut self, addr: u64, bytes: &[u8]) -> Result<(), OutOfRange>
-        ensures ok { OnOk result (Written self.old self.new addr bytes.now) }
-        ensures covered { IsOk result ↔ Covers self.old addr (length bytes.now) }
-        ensures bad { IfErr result (λ e. IsFirstBad self.old addr (length bytes.now) e.first_bad) }
+        ensures covered { is_ok result ≡ covers self.old.regions addr (length bytes.now) }
+        ensures written { OnOk result (self.new ≡ written self.old addr bytes.now) }
+        ensures bad { IfErr result (λ e. first_bad self.old.regions addr (length bytes.now) ≡ Some e.first_bad) }
         ensures unchanged { OnErr result (self.new ≡ self.old) }
     {
-        if let Some(first_bad) = span::first_gap(&self.blocks, addr, bytes.len() as u64) {
+        if let Some(first_bad) = self.first_bad(addr, bytes.len() as u64) {
             return Err(OutOfRange { first_bad });
         }
         span::copy_in(&mut self.blocks, addr, bytes);

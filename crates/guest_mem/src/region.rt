@@ -1,6 +1,7 @@
-ghost use Rattle.std.specs.Prelude.{◌≡◌, [], nat_lt, sum_by};
+//! Regions, and why they make no memory.
+ghost use Rattle.std.specs.Prelude.{◌≡◌, []};
 ghost use Rattle.std.specs.List.{list_any};
-ghost use Rattle.guest_mem.specs.Regions.{share_byte, fault_after, first_fault, refusal, number_of_fault};
+ghost use Rattle.guest_mem.specs.Regions.{share_byte, fault_after, first_fault, is_too_large, refusal, number_of_fault};
 
 use thiserror::Error;
 
@@ -58,7 +59,7 @@ impl RegionFault {
 }
 
 impl Region {
-    // Whether the two share a byte.
+    /// Whether the two share a byte.
     fn shares_byte(&self, other: &Region) -> bool
         ensures { result ≡ share_byte self.now other.now }
     {
@@ -69,14 +70,14 @@ impl Region {
         }
     }
 
-    // Whether it shares a byte with one of these.
+    /// Whether it shares a byte with one of these.
     fn shares_any(&self, others: &[Region]) -> bool
         ensures { result ≡ list_any (share_byte self.now) others.now }
     {
         others.iter().any(|other| self.shares_byte(other))
     }
 
-    // What is wrong with the region after these.
+    /// What is wrong with the region after these.
     fn fault_after(&self, earlier: &[Region]) -> Option<RegionFault>
         ensures { result ≡ fault_after earlier.now self.now }
     {
@@ -93,7 +94,7 @@ impl Region {
     }
 }
 
-// The first fault of a region, by its place.
+/// The first fault of a region, by its place.
 fn first_fault(regions: &[Region]) -> Option<RegionFault>
     ensures { result ≡ first_fault [] regions.now }
 {
@@ -105,9 +106,9 @@ fn first_fault(regions: &[Region]) -> Option<RegionFault>
     None
 }
 
-// Whether the regions have more bytes together than a memory may have.
+/// Whether the regions have more bytes together than a memory may have.
 fn is_too_large(regions: &[Region]) -> bool
-    ensures { result ≡ nat_lt 16777216 (sum_by (λ r. r.len) regions.now) }
+    ensures { result ≡ is_too_large regions.now }
 {
     let mut total = 0u64;
     for region in regions {
@@ -119,8 +120,10 @@ fn is_too_large(regions: &[Region]) -> bool
     false
 }
 
-// Why the regions make no memory.
-pub(crate) fn refusal(regions: &[Region]) -> Option<RegionFault>
+/// Why regions make no memory, if they make none: more than 64 regions; then of each region in turn
+/// that it is empty, that it reaches the last address, or that it shares a byte with an earlier one;
+/// and last more than 16 MiB together. It takes no memory.
+pub fn region_fault(regions: &[Region]) -> Option<RegionFault>
     ensures { result ≡ refusal regions.now }
 {
     if regions.len() > MAX_REGIONS {

@@ -1,67 +1,82 @@
 -- The bytes of a field are read back as the number that they were written for.
-use Rattle.std.proofs.Common.{◌≡◌, ℕ, ◌^◌, ◌<◌, List, [], ◌∷◌, ◌++◌, length, drop, refl, sym, ap, ◌∙◌, arith, append_assoc, length-append}
-use Rattle.std.proofs.lemmas.List.{drop_at}
+use Rattle.std.proofs.Common.{◌≡◌, ℕ, ◌^◌, ◌<◌, List, [], ◌++◌, length, drop, sym, ap, ◌∙◌, arith, append_assoc, length-append}
+use Rattle.std.specs.Int.{w16, w32, w64, from_le_bytes, to_le_bytes}
+use Rattle.std.proofs.lemmas.List.{drop_at, append-nil}
+use Rattle.byteorder.specs.Endian.{little_number}
 use Rattle.byteorder.specs.Numbers.{little_number-reads_back, length-bytes_low_first}
 use Rattle.vring_split.specs.declared.desc.Desc.{Desc}
 use Rattle.vring_split.specs.declared.used_elem.UsedElem.{UsedElem}
-use Rattle.vring_split.specs.Split.{le16, le32, le64, le16_bytes, le32_bytes, le64_bytes, desc_of, desc_bytes, used_elem_of, used_elem_bytes}
+use Rattle.vring_split.specs.Split.{desc_of, desc_bytes, used_elem_of, used_elem_bytes}
 
-pub le16-le16_bytes : (n : ℕ) (rest : List ℕ) → n < 2 ^ 16 → le16 (le16_bytes n ++ rest) ≡ n
-unfolding le16 le16_bytes
-le16-le16_bytes n rest h = little_number-reads_back 2 n rest h
+-- the number in the first bytes, digit by digit and as a sum
+pub little_2 : (bs : List ℕ) → little_number 2 bs ≡ from_le_bytes w16 bs
+little_2 bs = omega arith
 
-pub le32-le32_bytes : (n : ℕ) (rest : List ℕ) → n < 2 ^ 32 → le32 (le32_bytes n ++ rest) ≡ n
-unfolding le32 le32_bytes
-le32-le32_bytes n rest h = little_number-reads_back 4 n rest h
+pub little_4 : (bs : List ℕ) → little_number 4 bs ≡ from_le_bytes w32 bs
+little_4 bs = omega arith
 
-pub le64-le64_bytes : (n : ℕ) (rest : List ℕ) → n < 2 ^ 64 → le64 (le64_bytes n ++ rest) ≡ n
-unfolding le64 le64_bytes
-le64-le64_bytes n rest h = little_number-reads_back 8 n rest h
+pub little_8 : (bs : List ℕ) → little_number 8 bs ≡ from_le_bytes w64 bs
+little_8 bs = omega arith
 
-pub length-le16_bytes : (n : ℕ) → length (le16_bytes n) ≡ 2
-unfolding le16_bytes
-length-le16_bytes n = length-bytes_low_first 0 2 n
+read_2 : (n : ℕ) (rest : List ℕ) → n < 2 ^ 16 → from_le_bytes w16 (to_le_bytes w16 n ++ rest) ≡ n
+read_2 n rest h = sym (little_2 (to_le_bytes w16 n ++ rest)) ∙ little_number-reads_back 2 n rest h
 
-pub length-le32_bytes : (n : ℕ) → length (le32_bytes n) ≡ 4
-unfolding le32_bytes
-length-le32_bytes n = length-bytes_low_first 0 4 n
+read_4 : (n : ℕ) (rest : List ℕ) → n < 2 ^ 32 → from_le_bytes w32 (to_le_bytes w32 n ++ rest) ≡ n
+read_4 n rest h = sym (little_4 (to_le_bytes w32 n ++ rest)) ∙ little_number-reads_back 4 n rest h
 
-pub length-le64_bytes : (n : ℕ) → length (le64_bytes n) ≡ 8
-unfolding le64_bytes
-length-le64_bytes n = length-bytes_low_first 0 8 n
+read_8 : (n : ℕ) (rest : List ℕ) → n < 2 ^ 64 → from_le_bytes w64 (to_le_bytes w64 n ++ rest) ≡ n
+read_8 n rest h = sym (little_8 (to_le_bytes w64 n ++ rest)) ∙ little_number-reads_back 8 n rest h
 
-append_nil : (xs : List ℕ) → xs ++ [] ≡ xs
-append_nil [] = refl
-append_nil (x ∷ xs) = ap (λ (ys : List ℕ). x ∷ ys) (append_nil xs)
+length_2 : (n : ℕ) → length (to_le_bytes w16 n) ≡ 2
+length_2 n = length-bytes_low_first 0 2 n
 
-pub le16_alone : (n : ℕ) → n < 2 ^ 16 → le16 (le16_bytes n) ≡ n
-le16_alone n h = ap le16 (sym (append_nil (le16_bytes n))) ∙ le16-le16_bytes n [] h
+length_4 : (n : ℕ) → length (to_le_bytes w32 n) ≡ 4
+length_4 n = length-bytes_low_first 0 4 n
 
-pub le32_alone : (n : ℕ) → n < 2 ^ 32 → le32 (le32_bytes n) ≡ n
-le32_alone n h = ap le32 (sym (append_nil (le32_bytes n))) ∙ le32-le32_bytes n [] h
+length_8 : (n : ℕ) → length (to_le_bytes w64 n) ≡ 8
+length_8 n = length-bytes_low_first 0 8 n
+
+alone_2 : (n : ℕ) → n < 2 ^ 16 → from_le_bytes w16 (to_le_bytes w16 n) ≡ n
+alone_2 n h = ap (from_le_bytes w16) (sym (append-nil (to_le_bytes w16 n))) ∙ read_2 n [] h
+
+alone_4 : (n : ℕ) → n < 2 ^ 32 → from_le_bytes w32 (to_le_bytes w32 n) ≡ n
+alone_4 n h = ap (from_le_bytes w32) (sym (append-nil (to_le_bytes w32 n))) ∙ read_4 n [] h
 
 pub used_elem_back : (e : UsedElem) → e.id < 2 ^ 32 → e.len < 2 ^ 32 → used_elem_of (used_elem_bytes e) ≡ e
+unfolding used_elem_of used_elem_bytes
 used_elem_back e id len =
-    let first = le32-le32_bytes e.id (le32_bytes e.len) id in
-    let second : le32 (drop 4 (used_elem_bytes e)) ≡ e.len = ap le32 (drop_at (le32_bytes e.id) (le32_bytes e.len) 4 (length-le32_bytes e.id)) ∙ le32_alone e.len len in
+    let first = read_4 e.id (to_le_bytes w32 e.len) id in
+    let second = ap (from_le_bytes w32) (drop_at (to_le_bytes w32 e.id) (to_le_bytes w32 e.len) 4 (length_4 e.id)) ∙ alone_4 e.len len in
     λ i. record { id = first i; len = second i }
 
 pub desc_back : (d : Desc) → d.addr < 2 ^ 64 → d.len < 2 ^ 32 → d.flags < 2 ^ 16 → d.next < 2 ^ 16 → desc_of (desc_bytes d) ≡ d
+unfolding desc_of desc_bytes
 desc_back d addr len flags next =
-    let a = le64_bytes d.addr in
-    let l = le32_bytes d.len in
-    let f = le16_bytes d.flags in
-    let n = le16_bytes d.next in
-    let la = length-le64_bytes d.addr in
-    let ll = length-le32_bytes d.len in
-    let lf = length-le16_bytes d.flags in
+    let a = to_le_bytes w64 d.addr in
+    let l = to_le_bytes w32 d.len in
+    let f = to_le_bytes w16 d.flags in
+    let n = to_le_bytes w16 d.next in
+    let la = length_8 d.addr in
+    let ll = length_4 d.len in
+    let lf = length_2 d.flags in
     let lal : length (a ++ l) ≡ 12 = omega (arith, length-append a l) in
     let lalf : length ((a ++ l) ++ f) ≡ 14 = omega (arith, length-append (a ++ l) f) in
     let at_a : ((a ++ l) ++ f) ++ n ≡ a ++ (l ++ (f ++ n)) = append_assoc (a ++ l) f n ∙ append_assoc a l (f ++ n) in
-    let at_l : ((a ++ l) ++ f) ++ n ≡ a ++ (l ++ (f ++ n)) = at_a in
     let at_f : ((a ++ l) ++ f) ++ n ≡ (a ++ l) ++ (f ++ n) = append_assoc (a ++ l) f n in
-    let p_addr : le64 (desc_bytes d) ≡ d.addr = ap le64 at_a ∙ le64-le64_bytes d.addr (l ++ (f ++ n)) addr in
-    let p_len : le32 (drop 8 (desc_bytes d)) ≡ d.len = ap (λ (bs : List ℕ). le32 (drop 8 bs)) at_l ∙ ap le32 (drop_at a (l ++ (f ++ n)) 8 la) ∙ le32-le32_bytes d.len (f ++ n) len in
-    let p_flags : le16 (drop 12 (desc_bytes d)) ≡ d.flags = ap (λ (bs : List ℕ). le16 (drop 12 bs)) at_f ∙ ap le16 (drop_at (a ++ l) (f ++ n) 12 lal) ∙ le16-le16_bytes d.flags n flags in
-    let p_next : le16 (drop 14 (desc_bytes d)) ≡ d.next = ap le16 (drop_at ((a ++ l) ++ f) n 14 lalf) ∙ le16_alone d.next next in
+    let p_addr = ap (from_le_bytes w64) at_a ∙ read_8 d.addr (l ++ (f ++ n)) addr in
+    let p_len = ap (λ (bs : List ℕ). from_le_bytes w32 (drop 8 bs)) at_a ∙ ap (from_le_bytes w32) (drop_at a (l ++ (f ++ n)) 8 la) ∙ read_4 d.len (f ++ n) len in
+    let p_flags = ap (λ (bs : List ℕ). from_le_bytes w16 (drop 12 bs)) at_f ∙ ap (from_le_bytes w16) (drop_at (a ++ l) (f ++ n) 12 lal) ∙ read_2 d.flags n flags in
+    let p_next = ap (from_le_bytes w16) (drop_at ((a ++ l) ++ f) n 14 lalf) ∙ alone_2 d.next next in
     λ i. record { addr = p_addr i; len = p_len i; flags = p_flags i; next = p_next i }
+
+pub length-desc_bytes : (d : Desc) → length (desc_bytes d) ≡ 16
+unfolding desc_bytes
+length-desc_bytes d =
+    let a = to_le_bytes w64 d.addr in
+    let l = to_le_bytes w32 d.len in
+    let f = to_le_bytes w16 d.flags in
+    omega (arith, length-append a l, length-append (a ++ l) f, length-append ((a ++ l) ++ f) (to_le_bytes w16 d.next), length_8 d.addr, length_4 d.len, length_2 d.flags, length_2 d.next)
+
+pub length-used_elem_bytes : (e : UsedElem) → length (used_elem_bytes e) ≡ 8
+unfolding used_elem_bytes
+length-used_elem_bytes e = omega (arith, length-append (to_le_bytes w32 e.id) (to_le_bytes w32 e.len), length_4 e.id, length_4 e.len)

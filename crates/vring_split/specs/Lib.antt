@@ -1,1 +1,3 @@
 pub mod Split
+pub mod Good
+pub mod Laws

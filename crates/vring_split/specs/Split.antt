@@ -1,6 +1,6 @@
 -- VIRTIO 1.2, 2.7: the three parts of a split virtqueue, where each field stands in them, and what its bytes mean.
 use Rattle.std.specs.Prelude.{ℕ, ◌+◌, ◌-◌, ◌*◌, ◌^◌, ◌%◌, Bool, not, ◌==◌, nat_lt, bit_and, List, ◌++◌, drop}
-use Rattle.byteorder.specs.Endian.{little_number, little_bytes}
+use Rattle.std.specs.Int.{w16, w32, w64, from_le_bytes, to_le_bytes}
 use Rattle.vring_split.specs.declared.desc.Desc.{Desc}
 use Rattle.vring_split.specs.declared.layout.Layout.{Layout}
 use Rattle.vring_split.specs.declared.fault.RingFault.{RingFault}
@@ -21,7 +21,8 @@ used_len q = 6 + 8 * q
 abbrev pub desc_addr : Layout → ℕ → ℕ
 desc_addr l i = l.desc + 16 * i
 
--- 2.7.6: where the fields of the available ring start; the entry of a position is the one at its remainder by the queue size
+-- 2.7.6: where the fields of the available ring start; the entry of a position is the one at its remainder by the
+-- queue size
 abbrev pub avail_flags_addr : Layout → ℕ
 avail_flags_addr l = l.avail
 
@@ -47,33 +48,17 @@ used_entry_addr l position = l.used + 4 + 8 * (position % l.num)
 abbrev pub avail_event_addr : Layout → ℕ
 avail_event_addr l = l.used + 4 + 8 * l.num
 
--- 1.4: the little-endian number in the first bytes of a list
-unfoldable pub le16 : List ℕ → ℕ
-le16 bytes = little_number 2 bytes
-
-unfoldable pub le32 : List ℕ → ℕ
-le32 bytes = little_number 4 bytes
-
-unfoldable pub le64 : List ℕ → ℕ
-le64 bytes = little_number 8 bytes
-
--- 1.4: the little-endian bytes of a number
-unfoldable pub le16_bytes : ℕ → List ℕ
-le16_bytes n = little_bytes 2 n
-
-unfoldable pub le32_bytes : ℕ → List ℕ
-le32_bytes n = little_bytes 4 n
-
-unfoldable pub le64_bytes : ℕ → List ℕ
-le64_bytes n = little_bytes 8 n
-
 -- 2.7.5: the descriptor that 16 bytes are, le64 addr, le32 len, le16 flags and le16 next, and its bytes
-abbrev pub desc_of : List ℕ → Desc
-desc_of bytes =
-    record { addr = le64 bytes; len = le32 (drop 8 bytes); flags = le16 (drop 12 bytes); next = le16 (drop 14 bytes) }
+unfoldable pub desc_of : List ℕ → Desc
+desc_of bytes = record {
+  addr = from_le_bytes w64 bytes;
+  len = from_le_bytes w32 (drop 8 bytes);
+  flags = from_le_bytes w16 (drop 12 bytes);
+  next = from_le_bytes w16 (drop 14 bytes);
+}
 
-abbrev pub desc_bytes : Desc → List ℕ
-desc_bytes d = le64_bytes d.addr ++ le32_bytes d.len ++ le16_bytes d.flags ++ le16_bytes d.next
+unfoldable pub desc_bytes : Desc → List ℕ
+desc_bytes d = to_le_bytes w64 d.addr ++ to_le_bytes w32 d.len ++ to_le_bytes w16 d.flags ++ to_le_bytes w16 d.next
 
 -- 2.7.5: the flags of a descriptor, NEXT 1, WRITE 2 and INDIRECT 4
 abbrev pub has_next : Desc → Bool
@@ -86,17 +71,17 @@ abbrev pub is_indirect : Desc → Bool
 is_indirect d = not (bit_and d.flags 4 == 0)
 
 -- 2.7.8: the used element that 8 bytes are, le32 id and le32 len, and its bytes
-abbrev pub used_elem_of : List ℕ → UsedElem
-used_elem_of bytes = record { id = le32 bytes; len = le32 (drop 4 bytes) }
+unfoldable pub used_elem_of : List ℕ → UsedElem
+used_elem_of bytes = record { id = from_le_bytes w32 bytes; len = from_le_bytes w32 (drop 4 bytes) }
 
-abbrev pub used_elem_bytes : UsedElem → List ℕ
-used_elem_bytes e = le32_bytes e.id ++ le32_bytes e.len
+unfoldable pub used_elem_bytes : UsedElem → List ℕ
+used_elem_bytes e = to_le_bytes w32 e.id ++ to_le_bytes w32 e.len
 
 -- how many positions lie from one to another, going up and from 65,535 on to 0
 abbrev pub distance : ℕ → ℕ → ℕ
 distance from to = (to + (2 ^ 16 - from)) % 2 ^ 16
 
--- 2.7.7.1: an index that goes from old to new passes the position after event
+-- 2.7.7.1: an index that goes from old to new reaches the position after event
 abbrev pub needs_event : ℕ → ℕ → ℕ → Bool
 needs_event event new old = nat_lt (distance (event + 1) new) (distance old new)
 

@@ -1,3 +1,4 @@
+//! Descriptors.
 ghost use Rattle.std.specs.Prelude.{◌≡◌};
 ghost use Rattle.vring_split.specs.Split.{desc_of, desc_bytes, has_next, is_writable, is_indirect};
 
@@ -24,7 +25,7 @@ pub struct Desc {
 
 impl Desc {
     /// The descriptor that 16 bytes of a table are.
-    #[tactic(auto, unfolding(crate::specs::Split::le16, crate::specs::Split::le32, crate::specs::Split::le64))]
+    #[tactic(auto, unfolding(crate::specs::Split::desc_of))]
     pub fn of(bytes: &[u8; 16]) -> Desc
         ensures value { result ≡ desc_of bytes.now }
     {
@@ -37,7 +38,6 @@ impl Desc {
     }
 
     /// Its 16 bytes.
-    #[tactic(auto, unfolding(crate::specs::Split::le16_bytes, crate::specs::Split::le32_bytes, crate::specs::Split::le64_bytes))]
     pub fn bytes(&self) -> [u8; 16]
         ensures value { result ≡ desc_bytes self.now }
         ensures back { desc_of result ≡ self.now }

@@ -1,3 +1,4 @@
+//! What can be wrong with a ring.
 ghost use Rattle.std.specs.Prelude.{◌≡◌};
 ghost use Rattle.vring_split.specs.Split.{number_of_fault};
 

@@ -1,3 +1,4 @@
+//! Where a ring lies.
 ghost use Rattle.std.specs.Prelude.{◌≡◌, ◌<◌, ◌^◌, ◌+◌};
 ghost use Rattle.vring_split.specs.Split as split;
 

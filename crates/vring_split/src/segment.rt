@@ -1,3 +1,4 @@
+//! Segments of chains.
 /// A piece of a chain: memory that the device reads, or writes.
 #[derive(Clone, Copy, Debug, PartialEq, Eq)]
 pub struct Segment {

@@ -1,3 +1,4 @@
+//! Elements of the used ring.
 ghost use Rattle.std.specs.Prelude.{◌≡◌};
 ghost use Rattle.vring_split.specs.Split.{used_elem_of, used_elem_bytes};
 
@@ -14,7 +15,7 @@ pub struct UsedElem {
 
 impl UsedElem {
     /// The element that 8 bytes of the used ring are.
-    #[tactic(auto, unfolding(crate::specs::Split::le32))]
+    #[tactic(auto, unfolding(crate::specs::Split::used_elem_of))]
     pub fn of(bytes: &[u8; 8]) -> UsedElem
         ensures value { result ≡ used_elem_of bytes.now }
     {
@@ -25,7 +26,6 @@ impl UsedElem {
     }
 
     /// Its 8 bytes.
-    #[tactic(auto, unfolding(crate::specs::Split::le32_bytes))]
     pub fn bytes(&self) -> [u8; 8]
         ensures value { result ≡ used_elem_bytes self.now }
         ensures back { used_elem_of result ≡ self.now }

@@ -1,14 +1,12 @@
 -- What a descriptor that breaks no rule keeps to.
 use Rattle.std.proofs.Common.{◌≡◌, ℕ, ◌*◌, ◌/◌, ◌%◌, ◌<◌, ◌≤◌, Bool, true, false, not, cond, ◌&&◌, ◌||◌, eqb, nat_lt, nat_le, List, [], ◌∷◌, Option, Some, None, refl, ap, arith}
 use Rattle.std.proofs.lemmas.Bool.Decides.{nat_tests}
-use Rattle.guest_mem.specs.Memory.{ByteMap, Covers}
-use Rattle.guest_mem.proofs.Bytes.{is_covered-Decides}
 use Rattle.vring_split.specs.declared.desc.Desc.{Desc}
 use Rattle.vring_split.specs.declared.fault.RingFault.{RingFault}
 use Rattle.vring_split.specs.declared.layout.Layout.{Layout}
 use Rattle.vring_split.specs.Split.{has_next, is_writable, is_indirect}
 use Rattle.vring_walk.specs.declared.table.Table.{Table}
-use Rattle.vring_walk.specs.Chain.{is_bad_length, first_broken, rules_for}
+use Rattle.vring_walk.specs.Chain.{Cover, is_bad_length, first_broken, rules_for}
 
 pub record KeepsTableRules (l : Layout) (t : Table) (d : Desc) : Type 0 where
   pub plain : t.indirect ≡ false
@@ -17,10 +15,10 @@ pub record KeepsTableRules (l : Layout) (t : Table) (d : Desc) : Type 0 where
   pub whole : 16 * (d.len / 16) ≡ d.len
   pub most : d.len ≤ 16384
 
-pub record KeepsRules (m : ByteMap) (l : Layout) (t : Table) (d : Desc) (seen count : ℕ) (writable : Bool) : Type 0 where
+pub record KeepsRules (covers : Cover) (l : Layout) (t : Table) (d : Desc) (seen count : ℕ) (writable : Bool) : Type 0 where
   pub room : seen < t.entries
   pub table : is_indirect d ≡ true → KeepsTableRules l t d
-  pub mapped : Covers m d.addr d.len
+  pub mapped : covers d.addr d.len ≡ true
   pub few : is_indirect d ≡ false → count < 1024
   pub next : has_next d ≡ true → d.next < t.entries
   pub directed : is_indirect d ≡ false → is_writable d ≡ l.rx
@@ -67,9 +65,9 @@ good_length len e =
     most : (n : ℕ) → nat_lt 16384 n ≡ false → n ≤ 16384
     most n h = grind (arith, nat_tests)
 
-pub keeps_rules : (m : ByteMap) (l : Layout) (t : Table) (d : Desc) (seen count : ℕ) (writable : Bool) → first_broken (rules_for m l t d seen count writable) ≡ None → KeepsRules m l t d seen count writable
-keeps_rules m l t d seen count writable e =
-    let kept = all_kept (rules_for m l t d seen count writable) e in
+pub keeps_rules : (covers : Cover) (l : Layout) (t : Table) (d : Desc) (seen count : ℕ) (writable : Bool) → first_broken (rules_for covers l t d seen count writable) ≡ None → KeepsRules covers l t d seen count writable
+keeps_rules covers l t d seen count writable e =
+    let kept = all_kept (rules_for covers l t d seen count writable) e in
     record {
       room = above t.entries seen kept.0;
       table = λ i.
@@ -81,7 +79,7 @@ keeps_rules m l t d seen count writable e =
             whole = len.1;
             most = len.2;
           };
-      mapped = (is_covered-Decides m d.addr d.len).0 (not_off _ kept.1.1.1.1.1.0);
+      mapped = not_off _ kept.1.1.1.1.1.0;
       few = λ i. above 1024 count (second_off (not (is_indirect d)) (nat_le 1024 count) kept.1.1.1.1.1.1.1.1.0 (ap not i));
       next = λ n. above t.entries d.next (second_off (has_next d) (nat_le t.entries d.next) kept.1.1.1.1.1.1.1.1.1.0 n);
       directed = λ i. same_side l.rx (is_writable d) (second_off (not (is_indirect d)) _ kept.1.1.1.1.1.1.1.0 (ap not i));

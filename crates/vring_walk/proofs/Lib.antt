@@ -4,3 +4,4 @@ pub mod Paths
 pub mod Walks
 pub mod Endings
 pub mod Usable
+pub mod Functions

@@ -1,5 +1,7 @@
-ghost use Rattle.std.specs.Prelude.{◌↔◌, IsTrue};
-ghost use Rattle.vring_walk.specs.Chain.{IsGoodFor};
+//! Layouts that can be walked.
+ghost use Rattle.std.specs.Prelude.{◌≡◌, ◌↔◌, IsTrue};
+ghost use Rattle.guest_mem.specs.Memory.{covers};
+ghost use Rattle.vring_split.specs.Good.{IsGoodFor, is_good_for};
 
 use guest_mem::Memory;
 use vring_split::{Layout, avail_len, desc_len, used_len};
@@ -7,7 +9,8 @@ use vring_split::{Layout, avail_len, desc_len, used_len};
 /// Whether a layout is good for a memory: the queue size is a power of two up to 32,768, and the
 /// descriptor table, the available ring and the used ring lie in the memory.
 pub fn is_good(mem: &Memory, ring: &Layout) -> bool
-    ensures { IsTrue result ↔ IsGoodFor ring.now mem.now }
+    ensures good { IsTrue result ↔ IsGoodFor ring.now (covers mem.now.regions) }
+    ensures test { result ≡ is_good_for ring.now (covers mem.now.regions) }
 {
     ring.num.is_power_of_two()
         && ring.num <= 32768

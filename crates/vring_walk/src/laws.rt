@@ -1,24 +1,39 @@
-ghost use Rattle.std.specs.Prelude.{◌≡◌, ◌+◌, ◌^◌, ◌<◌, ◌≤◌, ℕ, List, length};
-ghost use Rattle.guest_mem.specs.Memory.{ByteMap};
-ghost use Rattle.vring_split.specs.declared.layout.Layout.{Layout as OneLayout};
-ghost use Rattle.vring_split.specs.declared.segment.Segment.{Segment as OneSegment};
-ghost use Rattle.vring_walk.specs.declared.walk.Fetched.{Fetched as OneAnswer};
-ghost use Rattle.vring_walk.specs.Chain.{IsChain, IsUsable, Place, Reaches};
-ghost use Rattle.vring_walk.specs.Fetch.{Fetches};
+//! What a path and a fetch can be, as contracts of functions that do nothing.
+ghost use Rattle.vring_walk.specs.Laws.{OneAnswer, FetchesAsFunction, NoLongPath, ChainsAreUsable, LaidElsewhere, FrontIsGathered};
+ghost use Rattle.vring_walk.specs.Examples.{HostileRings, IndexWraps};
+
+use guest_mem::write_laws;
 
 /// A memory, a layout, a position and a room determine what a fetch answers and what it makes of the
-/// room, so that each answer comes exactly where `Fetches` says so.
+/// room, so that each answer comes exactly where `Fetches` says so; and the function `fetched` gives
+/// it.
 pub fn one_answer()
-    ensures { (m : ByteMap) (l : OneLayout) (position : ℕ) (old new other : List OneSegment) (a b : OneAnswer) → position < 2 ^ 16 → Fetches m l position old a new → Fetches m l position old b other → (a ≡ b) × (new ≡ other) }
+    ensures one { OneAnswer }
+    ensures as_function { FetchesAsFunction }
 {}
 
 /// A path has no more descriptors before any of its places than the queue size and 1,024, so that a
 /// fetch looks at no more than the queue size and 1,025.
 pub fn no_long_path()
-    ensures { (m : ByteMap) (l : OneLayout) (head : ℕ) (behind : List Place) (p : Place) → Reaches m l head behind p → length behind ≤ l.num + 1024 }
+    ensures { NoLongPath }
 {}
 
 /// The segments of a chain are few, lie in the memory, and go the ring's way.
 pub fn chains_are_usable()
-    ensures { (m : ByteMap) (l : OneLayout) (head : ℕ) (segments : List OneSegment) → IsChain m l head segments → IsUsable m l segments }
+    ensures { ChainsAreUsable }
 {}
+
+/// The function on worked examples: hostile rings, and an index that wraps.
+pub fn worked_examples()
+    ensures hostile { HostileRings }
+    ensures wraps { IndexWraps }
+{}
+
+/// Bytes that are laid over segments leave all other bytes, and the first bytes of segments are the
+/// front of all their bytes.
+pub fn spread_laws()
+    ensures elsewhere { LaidElsewhere }
+    ensures front { FrontIsGathered }
+{
+    write_laws();
+}

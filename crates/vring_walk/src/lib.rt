@@ -5,8 +5,10 @@
 //! new, which rule the ring breaks first, or that the room has too few places left.
 //!
 //! `specs/Chain.antt` says what a chain is and which rule a path breaks first, and `specs/Fetch.antt`
-//! what a fetch answers. Both speak of the bytes of the memory and of no code. A contract sees the
-//! room, `Segments`, as the list of its segments.
+//! what a fetch answers. `specs/Fetched.antt` gives that answer as a function, which `specs/Laws.antt`
+//! ties to it, and `specs/Spread.antt` what a device reads from segments and writes into them. All of
+//! them speak of the bytes of a memory and of no code: of the byte at each address, and of a test of
+//! whether a range has bytes. A contract sees the room, `Segments`, as the list of its segments.
 #![tactic(auto)]
 
 mod good;
@@ -18,7 +20,7 @@ mod table;
 mod walk;
 
 pub use crate::good::is_good;
-pub use crate::laws::{chains_are_usable, no_long_path, one_answer};
+pub use crate::laws::{chains_are_usable, no_long_path, one_answer, spread_laws, worked_examples};
 pub use crate::segments::Segments;
 pub use crate::table::Table;
 pub use crate::walk::{Fetched, fetch};

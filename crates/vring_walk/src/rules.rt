@@ -1,4 +1,6 @@
+//! The rules for a descriptor.
 ghost use Rattle.std.specs.Prelude.{◌≡◌, ◌||◌};
+ghost use Rattle.guest_mem.specs.Memory.{covers};
 ghost use Rattle.vring_walk.specs.Chain.{first_broken, rules_for, is_bad_length};
 
 use crate::segments::MAX_SEGMENTS;
@@ -9,7 +11,7 @@ use vring_split::{Desc, Layout, RingFault};
 /// How many bytes an indirect table has at most.
 const MAX_TABLE_LEN: u32 = 16_384;
 
-/// What a path has met so far.
+//// What a path has met so far.
 #[derive(Clone, Copy)]
 pub struct Met {
     /// How many descriptors of the same table.
@@ -20,14 +22,14 @@ pub struct Met {
     pub writable: bool,
 }
 
-// Whether no table has this length.
+/// Whether no table has this length.
 fn is_bad_length(len: u32) -> bool
     ensures { result ≡ is_bad_length len }
 {
     len == 0 || len % 16 != 0 || len > MAX_TABLE_LEN
 }
 
-// The first rule that a descriptor breaks.
+/// The first rule that a descriptor breaks.
 pub fn broken_rule(
     mem: &Memory,
     ring: &Layout,
@@ -35,7 +37,8 @@ pub fn broken_rule(
     desc: &Desc,
     met: &Met,
 ) -> Option<RingFault>
-    ensures { result ≡ first_broken (rules_for mem.now ring.now table.now desc.now met.now.seen met.now.count met.now.writable) }
+    ensures { result ≡ first_broken (rules_for (covers mem.now.regions) ring.now table.now desc.now
+        met.now.seen met.now.count met.now.writable) }
 {
     let indirect = desc.is_indirect();
     let writable = desc.is_writable();

@@ -1,3 +1,4 @@
+//! The room for segments.
 ghost use Rattle.std.specs.Prelude.{◌≡◌, ◌≤◌, [], ◌∷◌, ◌++◌, length, take, IfOk};
 
 use std::alloc::{AllocError, Global};
@@ -49,7 +50,7 @@ impl Segments {
         self.items.as_slice()
     }
 
-    // Takes a segment, if a place is left.
+    /// Takes a segment, if a place is left.
     pub(crate) fn add(&mut self, segment: Segment)
         ensures { self.new ≡ take 1024 (self.old ++ segment ∷ []) }
     {
@@ -58,7 +59,7 @@ impl Segments {
         }
     }
 
-    // Frees the places from one on.
+    /// Frees the places from one on.
     pub(crate) fn truncate(&mut self, len: usize)
         ensures { self.new ≡ take len self.old }
     {

@@ -1,3 +1,4 @@
+//! Tables of descriptors.
 ghost use Rattle.std.specs.Prelude.{◌≡◌, ◌≤◌};
 ghost use Rattle.vring_walk.specs.Chain.{own_table, table_of};
 
@@ -15,7 +16,7 @@ pub struct Table {
 }
 
 impl Table {
-    // The ring's own table.
+    /// The ring's own table.
     pub(crate) fn own(ring: &Layout) -> Table
         ensures { result ≡ own_table ring.now }
     {
@@ -26,7 +27,7 @@ impl Table {
         }
     }
 
-    // The table that an indirect descriptor refers to.
+    /// The table that an indirect descriptor refers to.
     pub(crate) fn of(desc: &Desc) -> Table
         requires { desc.now.len ≤ 16384 }
         ensures { result ≡ table_of desc.now }

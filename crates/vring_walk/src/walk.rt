@@ -1,13 +1,16 @@
-ghost use Rattle.std.specs.Prelude.{◌≡◌, ◌≢◌, ◌++◌, ◌<◌, ◌≤◌, List, length, take, IfOk, IfErr, ℕ};
-ghost use Rattle.vring_split.specs.declared.segment.Segment.{Segment as OneSegment};
-ghost use Rattle.vring_walk.specs.Chain.{IsGoodFor, IsChain, IsFirstFault};
-ghost use Rattle.vring_walk.specs.Fetch.{avail_idx, avail_head, Fetches};
+//! The fetch, and the walk along a path.
+ghost use Rattle.std.specs.Prelude.{◌≡◌, ◌<◌, ◌≤◌, length, take, IfOk, IfErr};
+ghost use Rattle.guest_mem.specs.Memory.{byte_at, covers};
+ghost use Rattle.vring_split.specs.Good.{IsGoodFor};
+ghost use Rattle.vring_walk.specs.Chain.{IsFirstFault};
+ghost use Rattle.vring_walk.specs.Fetch.{avail_idx, avail_head, Fetches, TakesChain};
+ghost use Rattle.vring_walk.specs.Fetched.{AppendsFetched};
 
 use crate::rules::Met;
 use crate::segments::{MAX_SEGMENTS, Segments};
 use crate::table::Table;
 use crate::{read, rules};
-use guest_mem::Memory;
+use guest_mem::{Memory, range_laws};
 use vring_split::{Layout, RingFault, Segment};
 
 /// How many entries an indirect table has at most.
@@ -29,15 +32,16 @@ pub enum Fetched {
     Crowded,
 }
 
-// Follows the path from a head: how many segments its chain has, of which the room takes those that
-// fit, or the first rule that the path breaks. It looks at no more than the queue size and 1,025
-// descriptors.
+/// Follows the path from a head: how many segments its chain has, of which the room takes those that
+/// fit, or the first rule that the path breaks. It looks at no more than the queue size and 1,025
+/// descriptors.
 fn walk(mem: &Memory, ring: &Layout, head: u16, room: &mut Segments) -> Result<u16, RingFault>
-    requires good { IsGoodFor ring.now mem.now }
+    requires good { IsGoodFor ring.now (covers mem.now.regions) }
     requires inside { head < ring.now.num }
     requires few { length room.old ≤ 1024 }
-    ensures chain { IfOk result (λ count. (segments : List OneSegment) × IsChain mem.now ring.now head segments × (count ≡ length segments) × (room.new ≡ take 1024 (room.old ++ segments))) }
-    ensures fault { IfErr result (IsFirstFault mem.now ring.now head) }
+    ensures chain { IfOk result
+        (TakesChain (byte_at mem.now) (covers mem.now.regions) ring.now head room.old room.new) }
+    ensures fault { IfErr result (IsFirstFault (byte_at mem.now) (covers mem.now.regions) ring.now head) }
     ensures kept { take (length room.old) room.new ≡ room.old }
 {
     let mut table = Table::own(ring);
@@ -84,9 +88,21 @@ fn walk(mem: &Memory, ring: &Layout, head: u16, room: &mut Segments) -> Result<u
 /// position, `Bad` with the first rule that the ring breaks, and `Crowded` where the chain is good
 /// and has more segments than the room has places left. The last three leave the room unchanged.
 pub fn fetch(mem: &Memory, ring: &Layout, last: u16, room: &mut Segments) -> Fetched
-    requires { IsGoodFor ring.now mem.now }
-    ensures answer { Fetches mem.now ring.now last room.old result room.new }
+    requires { IsGoodFor ring.now (covers mem.now.regions) }
+    ensures answer { Fetches (byte_at mem.now) (covers mem.now.regions) ring.now last room.old result room.new }
+    ensures as_function { AppendsFetched (byte_at mem.now) (covers mem.now.regions)
+        ring.now last room.old result room.new }
 {
+    take_available(mem, ring, last, room)
+}
+
+/// Takes the chain that is available at a position, as `fetch` does.
+fn take_available(mem: &Memory, ring: &Layout, last: u16, room: &mut Segments) -> Fetched
+    requires { IsGoodFor ring.now (covers mem.now.regions) }
+    ensures answer { Fetches (byte_at mem.now) (covers mem.now.regions) ring.now last room.old result room.new }
+    ensures few { length room.old ≤ 1024 }
+{
+    let kept = room.list().len();
     let index = available_index(mem, ring);
     if index == last {
         return Fetched::Nothing;
@@ -98,7 +114,6 @@ pub fn fetch(mem: &Memory, ring: &Layout, last: u16, room: &mut Segments) -> Fet
     if head >= ring.num {
         return Fetched::Bad(RingFault::HeadRange);
     }
-    let kept = room.list().len();
     match walk(mem, ring, head, room) {
         Ok(count) => {
             if kept + usize::from(count) <= MAX_SEGMENTS {
@@ -115,18 +130,22 @@ pub fn fetch(mem: &Memory, ring: &Layout, last: u16, room: &mut Segments) -> Fet
     }
 }
 
-// The available index.
+/// The available index.
+#[tactic(auto, unfolding(crate::specs::Fetch::avail_idx))]
 fn available_index(mem: &Memory, ring: &Layout) -> u16
-    requires { IsGoodFor ring.now mem.now }
-    ensures { result ≡ avail_idx mem.now ring.now }
+    requires { IsGoodFor ring.now (covers mem.now.regions) }
+    ensures { result ≡ avail_idx (byte_at mem.now) ring.now }
 {
+    range_laws();
     read::le16_at(mem, ring.avail_idx_addr())
 }
 
-// The head in the available ring's entry of a position.
+/// The head in the available ring's entry of a position.
+#[tactic(auto, unfolding(crate::specs::Fetch::avail_head))]
 fn available_head(mem: &Memory, ring: &Layout, position: u16) -> u16
-    requires { IsGoodFor ring.now mem.now }
-    ensures { result ≡ avail_head mem.now ring.now position }
+    requires { IsGoodFor ring.now (covers mem.now.regions) }
+    ensures { result ≡ avail_head (byte_at mem.now) ring.now position }
 {
+    range_laws();
     read::le16_at(mem, ring.avail_entry_addr(position))
 }

@@ -1,16 +1,16 @@
-use Rattle.std.proofs.Common.{◌+◌, ◌*◌, ◌%◌, arith, subst, sym}
-use Rattle.guest_mem.specs.Memory.{Covers}
-use Rattle.guest_mem.proofs.Ranges.{covers_fits, covers_part}
+use Rattle.std.proofs.Common.{◌≡◌, ◌+◌, ◌*◌, ◌%◌, true, arith, subst, sym}
+use Rattle.guest_mem.specs.Memory.{covers}
 use Rattle.vring_walk.proofs.Paths.{power_positive}
 use Rattle.vring_walk.proofs.walk.available_head.Goals as goal
 
 pub avail_entry_addr-requires-clause-fits : goal.avail_entry_addr-requires-clause-fits
 avail_entry_addr-requires-clause-fits c =
-    let fits = covers_fits c.args.mem.now c.args.ring.now.avail (6 + 2 * c.args.ring.now.num) c.requires.avail (omega arith) in
+    let fits = c.range_laws.ensures.fits c.args.mem.now.regions c.args.ring.now.avail (6 + 2 * c.args.ring.now.num) c.requires.avail (omega arith) in
     let some = power_positive c.args.ring.now.num c.requires.power in
     omega arith
 
 pub le16_at-requires : goal.le16_at-requires
 le16_at-requires c =
     let some = power_positive c.args.ring.now.num c.requires.power in
-    subst (λ a. Covers c.args.mem.now a 2) (sym c.avail_entry_addr.ensures) (covers_part c.args.mem.now c.args.ring.now.avail (6 + 2 * c.args.ring.now.num) (c.args.ring.now.avail + 4 + 2 * (c.args.position % c.args.ring.now.num)) 2 c.requires.avail (omega arith) (omega arith))
+    subst (λ a. covers c.args.mem.now.regions a 2 ≡ true) (sym c.avail_entry_addr.ensures)
+    (c.range_laws.ensures.parts c.args.mem.now.regions c.args.ring.now.avail (6 + 2 * c.args.ring.now.num) (c.args.ring.now.avail + 4 + 2 * (c.args.position % c.args.ring.now.num)) 2 c.requires.avail (omega arith) (omega arith))

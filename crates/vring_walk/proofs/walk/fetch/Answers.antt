@@ -1,16 +1,8 @@
-use Rattle.std.proofs.Common.{◌≡◌, ◌+◌, ◌≤◌, ◌++◌, length, arith, ap, rules, length-append, ◌∙◌}
-use Rattle.vring_walk.specs.Fetch.{IsAvailable}
-use Rattle.vring_walk.proofs.Rooms.{take_all_of}
+use Rattle.std.proofs.Common.{arith}
+use Rattle.guest_mem.specs.Memory.{byte_at, covers}
+use Rattle.vring_walk.proofs.Functions.{fetches_as_function}
 use Rattle.vring_walk.proofs.walk.fetch.Goals as goal
 
-pub returns-then-kept-from-le-MAX_SEGMENTS : goal.returns-then-kept-from-le-MAX_SEGMENTS
-returns-then-kept-from-le-MAX_SEGMENTS c =
-    let found = c.in-Ok.ensures.chain in
-    let count = found.2 in
-    let list : length c.list-kept.result.now ≡ length c.args.room.now = ap length c.list-kept.ensures.list in
-    let fits : length c.args.room.now + length found.0 ≤ 1024 = omega (arith, c.if-kept-from-le-MAX_SEGMENTS.true, c.from.ensures) in
-    let whole : length (c.args.room.now ++ found.0) ≤ 1024 = omega (arith, length-append c.args.room.now found.0) in
-    let available : IsAvailable c.args.mem.now c.args.ring.now c.args.last = search rules in
-    record {
-      answer = (found.0, record { available = available; at = c.available_head-head.ensures; inside = c.if-head-ring.false; chain = found.1 }, fits, found.3 ∙ take_all_of 1024 (c.args.room.now ++ found.0) whole);
-    }
+pub returns-clause-as_function : goal.returns-clause-as_function
+returns-clause-as_function c =
+    (fetches_as_function (byte_at c.args.mem.now) (covers c.args.mem.now.regions) c.args.ring.now c.args.last c.args.room.now c.take_available.new.room c.take_available.result (omega arith) c.take_available.ensures.few).0 c.take_available.ensures.answer

@@ -1,10 +1,10 @@
 use Rattle.std.proofs.Common.{rules, ap, ◌∙◌, arith}
-use Rattle.vring_split.specs.Split.{le16_bytes, le32_bytes, le64_bytes, desc_of}
+use Rattle.vring_split.specs.Split.{desc_of, desc_bytes}
 use Rattle.vring_split.proofs.Fields.{desc_back}
 use Rattle.vring_split.proofs.desc.Desc.bytes.Goals as goal
 
 pub returns-clause-value : goal.returns-clause-value
-unfolding le16_bytes le32_bytes le64_bytes
+unfolding desc_bytes
 returns-clause-value c = search rules
 
 pub returns-clause-back : goal.returns-clause-back

@@ -1,10 +1,10 @@
 use Rattle.std.proofs.Common.{rules, ap, ◌∙◌, arith}
-use Rattle.vring_split.specs.Split.{le32_bytes, used_elem_of}
+use Rattle.vring_split.specs.Split.{used_elem_of, used_elem_bytes}
 use Rattle.vring_split.proofs.Fields.{used_elem_back}
 use Rattle.vring_split.proofs.used_elem.UsedElem.bytes.Goals as goal
 
 pub returns-clause-value : goal.returns-clause-value
-unfolding le32_bytes
+unfolding used_elem_bytes
 returns-clause-value c = search rules
 
 pub returns-clause-back : goal.returns-clause-back

@@ -1,6 +1,7 @@
 use Rattle.std.proofs.Common.{◌≡◌, [], ◌∷◌, ◌++◌, List, length, sym, ap, ◌∙◌, ◌≤◌, arith, length-append}
 use Rattle.vring_split.specs.declared.segment.Segment.{Segment}
-use Rattle.vring_walk.proofs.Rooms.{take_all_of, take_full}
+use Rattle.std.proofs.lemmas.List.{take_all}
+use Rattle.vring_walk.proofs.Rooms.{take_full}
 use Rattle.vring_walk.proofs.segments.Segments.add.Goals as goal
 
 pub returns-then-len-lt-MAX_SEGMENTS : goal.returns-then-len-lt-MAX_SEGMENTS
@@ -9,7 +10,7 @@ returns-then-len-lt-MAX_SEGMENTS c =
     let view = c.self.view_is in
     let same : c.push_reserved.new.self.items ≡ c.args.self.now ++ c.args.segment ∷ [] = items ∙ ap (λ (xs : List Segment). xs ++ c.args.segment ∷ []) view in
     let len : length (c.args.self.now ++ c.args.segment ∷ []) ≤ 1024 = omega (arith, length-append c.args.self.now (c.args.segment ∷ []), ap length view, c.len.ensures) in
-    same ∙ sym (take_all_of 1024 (c.args.self.now ++ c.args.segment ∷ []) len)
+    same ∙ sym (take_all 1024 (c.args.self.now ++ c.args.segment ∷ []) len)
 
 pub returns-else-len-lt-MAX_SEGMENTS : goal.returns-else-len-lt-MAX_SEGMENTS
 returns-else-len-lt-MAX_SEGMENTS c =
