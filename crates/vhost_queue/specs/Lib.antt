@@ -1,0 +1,5 @@
+pub mod Positions
+pub mod Queue
+pub mod Publication
+pub mod Laws
+pub mod Kept

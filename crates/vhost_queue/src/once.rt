@@ -1,0 +1,58 @@
+//! Rings of any kind whose chains are published once, in their order.
+ghost use Rattle.std.specs.Prelude.{◌≡◌, ℕ, ◌-◌, ◌<◌, ◌≤◌, length};
+ghost use Rattle.guest_mem.specs.Memory.{Contents};
+ghost use Rattle.vhost_queue.specs.Positions.{Positions, Published, served, rewound, with_done, all_published};
+ghost use Rattle.vhost_queue.specs.Queue.{most_gathered, room_in};
+
+use guest_mem::Memory;
+
+/// What a device keeps of a ring, of whatever kind: each chain of a list of positions is served, then
+/// done, then published, once and in its order.
+pub trait Once {
+    // The lists of positions, and how many places for published chains are reserved.
+    ghost lists: { Self → Positions };
+
+    ghost reserved: { Self → ℕ };
+
+    // The layout is good for a memory.
+    ghost is_good: { Self → Contents → Type 0 };
+    // One more chain may be served now.
+    ghost may_serve: { Self → Type 0 };
+    // The chain of this head may be done now.
+    ghost may_finish: { Self → ℕ → Type 0 };
+
+    /// The position of the next chain.
+    fn position(&self) -> u16
+        ensures { result ≡ (lists self.now).next };
+
+    /// The chain at the next position was served.
+    fn served(&mut self)
+        requires few { (lists self.old).gathered < most_gathered }
+        requires now { may_serve self.old }
+        ensures lists { lists self.new ≡ served (lists self.old) }
+        ensures reserved { reserved self.new ≡ reserved self.old };
+
+    /// So many chains, the latest ones served, stand at their positions again.
+    fn rewind(&mut self, count: u16)
+        requires { count ≤ (lists self.old).gathered }
+        ensures lists { lists self.new ≡ rewound count (lists self.old) }
+        ensures reserved { reserved self.new ≡ reserved self.old };
+
+    /// The first chain that was served and isn't done is done.
+    fn done(&mut self, head: u16, len: u32)
+        requires some { 0 < (lists self.old).gathered }
+        requires room { 0 < room_in (lists self.old) (reserved self.old) }
+        requires now { may_finish self.old head }
+        ensures lists { lists self.new ≡ with_done head len (lists self.old) }
+        ensures reserved { reserved self.new ≡ reserved self.old };
+
+    /// Publishes what is done, and tells whether the driver wants a notice.
+    fn publish(&mut self, mem: &mut Memory) -> bool
+        requires { is_good self.old mem.old }
+        ensures lists { lists self.new ≡ all_published (lists self.old) }
+        ensures reserved { reserved self.new ≡ reserved self.old - length (lists self.old).done };
+
+    /// Position, head and length of each chain that was published.
+    fn journal(&self) -> &[(u16, u16, u32)]
+        ensures { result.now ≡ (lists self.now).journal };
+}

@@ -1,0 +1,4 @@
+pub mod Freed
+pub mod Written
+pub mod Harvested
+pub mod Whole

@@ -1,0 +1,6 @@
+pub mod Area
+pub mod Books
+pub mod Posts
+pub mod Harvests
+pub mod Kept
+pub mod Laws
