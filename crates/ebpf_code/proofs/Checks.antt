@@ -4,8 +4,8 @@ use Rattle.std.proofs.lemmas.Bool.{both_ways, cases_lt, or_cases, or_parts, and_
 use Rattle.std.proofs.lemmas.List.{get_or_past}
 use Rattle.std.specs.Prelude.{◌==◌, nat_lt, nat_le, IsSomeAnd, IsTrue, slice_index_or}
 use Rattle.std.specs.Option.{option_map}
-use Rattle.ebpf_code.specs.declared.fault.Why.{Why}
-use Rattle.ebpf_code.specs.declared.fault.Why.TheVariants.{Length, Opcode, Register, Backward, Beyond, Unset, NoExit, HalfWide, TooMany, Field}
+use Rattle.ebpf_code.specs.declared.fault.CodeWhy.{CodeWhy}
+use Rattle.ebpf_code.specs.declared.fault.CodeWhy.TheVariants.{Length, Opcode, Register, Backward, Beyond, Unset, NoExit, HalfWide, TooMany, Field}
 use Rattle.ebpf_code.specs.declared.set.RegisterSet.{RegisterSet}
 use Rattle.ebpf_code.specs.declared.instruction.Instruction.{Instruction}
 use Rattle.ebpf_code.specs.declared.encoding.Encoding.{Encoding}
@@ -114,7 +114,7 @@ pub count_is : (bytes : List ℕ) (m : ℕ) → length bytes ≡ 8 * m → slot_
 count_is bytes m e = omega arith
 
 -- the faults at the place that are left have number n or more
-pub least : (bytes : List ℕ) (m place n : ℕ) (i : Instruction) → length bytes ≡ 8 * m → place < m → m ≤ 4096 → Passed bytes m place n i → (why : Why) → HasFault bytes place why → n ≤ number why
+pub least : (bytes : List ℕ) (m place n : ℕ) (i : Instruction) → length bytes ≡ 8 * m → place < m → m ≤ 4096 → Passed bytes m place n i → (why : CodeWhy) → HasFault bytes place why → n ≤ number why
 least bytes m place n i len lt few p Length h = absurd (elim h.1 [ inl e ↦ omega arith | inr e ↦ e (omega arith) ])
 least bytes m place n i len lt few p Opcode h = absurd (let o = (found_of bytes place i p.found).operation in let e : Some i.operation ≡ None = sym o ∙ h.2 in cc)
 least bytes m place n i len lt few p Register h = by_test n 3 (misuses_register i) p.registers (at_found bytes place i (λ j. IsTrue (misuses_register j)) p.found h)
@@ -129,7 +129,7 @@ least bytes m place n i len lt few p HalfWide h = by_test n 8 (enters_wide bytes
 least bytes m place n i len lt few p TooMany h = absurd (let k = count_is bytes m len in omega (arith, h.1))
 least bytes m place n i len lt few p Field h = by_test n 10 (misuses_field i (encoding_at bytes (place + 1))) p.fields (at_found bytes place i (λ j. IsTrue (misuses_field j (encoding_at bytes (place + 1)))) p.found h)
 
-too_great : (why : Why) → 11 ≤ number why → ⊥
+too_great : (why : CodeWhy) → 11 ≤ number why → ⊥
 too_great Length k = omega arith
 too_great Opcode k = omega arith
 too_great Register k = omega arith
@@ -145,11 +145,11 @@ too_great Field k = omega arith
 pub none_left : (bytes : List ℕ) (m place : ℕ) (i : Instruction) → length bytes ≡ 8 * m → place < m → m ≤ 4096 → Passed bytes m place 11 i → HasNone bytes place
 none_left bytes m place i len lt few p why h = let k = least bytes m place 11 i len lt few p why h in too_great why k
 
-keep : (g x : Bool) → ((g && true) && x) ≡ (g && x)
+pub keep : (g x : Bool) → ((g && true) && x) ≡ (g && x)
 keep true x = refl
 keep false x = refl
 
-lose : (g x : Bool) → ((g && false) && x) ≡ (g && false)
+pub lose : (g x : Bool) → ((g && false) && x) ≡ (g && false)
 lose true x = refl
 lose false x = refl
 

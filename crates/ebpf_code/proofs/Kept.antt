@@ -35,7 +35,7 @@ leads_later k i p h =
     ]
 
 -- no path comes to a place through k
-abbrev NotThrough : List ℕ → ℕ → ℕ → Type 0
+abbrev pub NotThrough : List ℕ → ℕ → ℕ → Type 0
 NotThrough bytes k p = (e : List ℕ) → IsPath bytes p (k ∷ e) → ⊥
 
 same_sound : (bytes : List ℕ) (k p : ℕ) (kept : Option RegisterSet) → IsKept bytes k p kept → NotThrough bytes k p → (path : List ℕ) → IsPath bytes p path → IsBelow (k + 1) path → IsSomeAnd kept (λ s. (r : ℕ) → r < 11 → holds s r ≡ true → is_set bytes path r ≡ true)
@@ -54,7 +54,7 @@ same_unset : (bytes : List ℕ) (k p : ℕ) (kept : Option RegisterSet) → IfSo
 same_unset bytes k p None h = tt
 same_unset bytes k p (Some s) h = λ r lt f. let x = h r lt f in (x.0, x.1, below_next k x.0 x.2, x.3)
 
-kept_same : (bytes : List ℕ) (k p : ℕ) (kept : Option RegisterSet) → IsKept bytes k p kept → NotThrough bytes k p → IsKept bytes (k + 1) p kept
+pub kept_same : (bytes : List ℕ) (k p : ℕ) (kept : Option RegisterSet) → IsKept bytes k p kept → NotThrough bytes k p → IsKept bytes (k + 1) p kept
 kept_same bytes k p kept old apart = record {
   sound = same_sound bytes k p kept old apart;
   reached = same_reached bytes k p kept old.reached;
@@ -143,7 +143,7 @@ pub kept_unreached : (bytes : List ℕ) (k : ℕ) (sets : List (Option RegisterS
 kept_unreached bytes k sets kept here none = λ p lt.
     kept_same bytes k p (kept_at sets p) (kept p lt) (λ e path. subst (λ o. IsSomeAnd o (λ s. (r : ℕ) → r < 11 → holds s r ≡ true → is_set bytes e r ≡ true)) none ((kept k here).sound e path.2 (below_place bytes k e path.2)))
 
-led_any : (bytes : List ℕ) (k : ℕ) (i : Instruction) (s a : RegisterSet) (p : ℕ) (old new : Option RegisterSet) → instruction_at bytes k ≡ Some i → IsKept bytes k k (Some s) → ((r : ℕ) → r < 11 → holds a r ≡ set_after (Some i) (holds s r) r) → IsKept bytes k p old → leads k i p ≡ true → Meets old a new → IsKept bytes (k + 1) p new
+pub led_any : (bytes : List ℕ) (k : ℕ) (i : Instruction) (s a : RegisterSet) (p : ℕ) (old new : Option RegisterSet) → instruction_at bytes k ≡ Some i → IsKept bytes k k (Some s) → ((r : ℕ) → r < 11 → holds a r ≡ set_after (Some i) (holds s r) r) → IsKept bytes k p old → leads k i p ≡ true → Meets old a new → IsKept bytes (k + 1) p new
 led_any bytes k i s a p old None found here after was led meets = absurd meets
 led_any bytes k i s a p old (Some t) found here after was led meets = kept_led bytes k i found s a t p old here after was led meets
 

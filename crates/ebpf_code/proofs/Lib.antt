@@ -3,3 +3,5 @@ pub mod Checks
 pub mod Kept
 pub mod Whole
 pub mod Spells
+pub mod FirstFault
+pub mod Sound

@@ -24,14 +24,14 @@ use Rattle.ebpf_code.specs.declared.operation.Operation.TheVariants.{Calculate, 
 use Rattle.ebpf_code.specs.Instruction.{operation_of, arithmetic_of, condition_of, calculation_of, branch_of, jump_of, load_of, source_of, without_source, swap_of}
 use Rattle.ebpf_code.specs.Spelling.{opcode, source_bit, arithmetic_code, condition_code}
 use Rattle.std.proofs.Math.Seq.{take-add}
-use Rattle.ebpf_code.specs.declared.fault.Why.TheVariants.{Field}
+use Rattle.ebpf_code.specs.declared.fault.CodeWhy.TheVariants.{Field}
 use Rattle.ebpf_code.specs.declared.instruction.Instruction.{Instruction}
 use Rattle.ebpf_code.specs.declared.instruction.Slot.{Slot}
 use Rattle.ebpf_code.specs.declared.instruction.Slot.TheVariants.{Begins, HighHalf}
 use Rattle.ebpf_code.specs.Encoding.{encoding_at, byte_at}
 use Rattle.ebpf_code.specs.Instruction.{instruction}
 use Rattle.ebpf_code.specs.Faults.{slot_count, is_second, instruction_at, slot_at, NoFault, misuses_field, has_stray_field, is_plain}
-use Rattle.ebpf_code.specs.Sets.{AreSlots}
+use Rattle.ebpf_code.specs.Program.{AreSlots}
 use Rattle.ebpf_code.specs.Spelling.{slot_bytes, spelling}
 use Rattle.ebpf_code.specs.Program.{IsProgram}
 use Rattle.ebpf_code.proofs.Places.{found_of, at_is}

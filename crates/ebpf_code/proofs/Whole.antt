@@ -2,8 +2,8 @@
 use Rattle.std.proofs.Common.{◌≡◌, ℕ, zero, suc, ◌+◌, ◌*◌, ◌<◌, ◌≤◌, List, [], ◌∷◌, ◌++◌, length, below_more, true, Some, None, refl, sym, ◌∙◌, subst, inl, inr, arith}
 use Rattle.std.proofs.lemmas.Bool.{both_ways, cases_lt}
 use Rattle.std.specs.Prelude.{IsSomeAnd, slice_get}
-use Rattle.ebpf_code.specs.declared.fault.Why.{Why}
-use Rattle.ebpf_code.specs.declared.fault.Why.TheVariants.{Length, Opcode, Register, Backward, Beyond, Unset, NoExit, HalfWide, TooMany, Field}
+use Rattle.ebpf_code.specs.declared.fault.CodeWhy.{CodeWhy}
+use Rattle.ebpf_code.specs.declared.fault.CodeWhy.TheVariants.{Length, Opcode, Register, Backward, Beyond, Unset, NoExit, HalfWide, TooMany, Field}
 use Rattle.ebpf_code.specs.declared.instruction.Slot.{Slot}
 use Rattle.ebpf_code.specs.declared.instruction.Instruction.{Instruction}
 use Rattle.ebpf_code.specs.Faults.{is_second, instruction_at, slot_at, At, HasFault, HasNone, NoFault, IsLeast, turn, IsNoLater}
@@ -18,7 +18,7 @@ nothing_at : (bytes : List ℕ) (place : ℕ) (P : Instruction → Type 0) → N
 nothing_at bytes place P none h = subst (λ o. IsSomeAnd o P) none h
 
 -- neither Length nor TooMany
-pub turn_one : (bytes : List ℕ) (m : ℕ) → length bytes ≡ 8 * m → 0 < m → m ≤ 4096 → (place : ℕ) (why : Why) → HasFault bytes place why → turn why ≡ 1
+pub turn_one : (bytes : List ℕ) (m : ℕ) → length bytes ≡ 8 * m → 0 < m → m ≤ 4096 → (place : ℕ) (why : CodeWhy) → HasFault bytes place why → turn why ≡ 1
 turn_one bytes m len some few place Length h = absurd (elim h.1 [ inl e ↦ omega arith | inr e ↦ e (omega arith) ])
 turn_one bytes m len some few place Opcode h = refl
 turn_one bytes m len some few place Register h = refl
@@ -55,7 +55,7 @@ all_none bytes m len some few none place =
     ]
 
 -- the first fault
-pub first : (bytes : List ℕ) (m place : ℕ) (why : Why) → length bytes ≡ 8 * m → 0 < m → m ≤ 4096 → ((p : ℕ) → p < place → HasNone bytes p) → IsLeast bytes place why → (p : ℕ) (w : Why) → HasFault bytes p w → IsNoLater why place w p
+pub first : (bytes : List ℕ) (m place : ℕ) (why : CodeWhy) → length bytes ≡ 8 * m → 0 < m → m ≤ 4096 → ((p : ℕ) → p < place → HasNone bytes p) → IsLeast bytes place why → (p : ℕ) (w : CodeWhy) → HasFault bytes p w → IsNoLater why place w p
 first bytes m place why len some few none least p w h =
     let same : turn why ≡ turn w = turn_one bytes m len some few place why least.0 ∙ sym (turn_one bytes m len some few p w h) in
     elim (cases_lt place p) [

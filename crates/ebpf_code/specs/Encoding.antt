@@ -14,5 +14,6 @@ encoding_at bytes place = record {
   destination = byte_at bytes place 1 % 16;
   source = byte_at bytes place 1 / 16;
   offset = from_le_bytes w16 (byte_at bytes place 2 ∷ byte_at bytes place 3 ∷ []);
-  immediate = from_le_bytes w32 (byte_at bytes place 4 ∷ byte_at bytes place 5 ∷ byte_at bytes place 6 ∷ byte_at bytes place 7 ∷ []);
+  immediate = from_le_bytes w32
+      (byte_at bytes place 4 ∷ byte_at bytes place 5 ∷ byte_at bytes place 6 ∷ byte_at bytes place 7 ∷ []);
 }

@@ -1,9 +1,11 @@
 -- This project's own: the faults of a program, and which of them is the first.
 use Rattle.std.specs.Prelude.{◌≡◌, ◌≢◌, ℕ, zero, suc, ◌+◌, ◌/◌, ◌%◌, ◌<◌, ◌≤◌, ◌⊎◌, List, [], ◌∷◌, length, Option, Some, None, IsSomeAnd, Bool, true, false, not, ◌&&◌, ◌||◌, ◌==◌, nat_lt, nat_le, IsTrue, if◌then◌else◌}
 use Rattle.std.specs.Option.{option_map}
-use Rattle.ebpf_code.specs.declared.fault.Why.{Why}
-use Rattle.ebpf_code.specs.declared.fault.Why.TheVariants.{Length, Opcode, Register, Backward, Beyond, Unset, NoExit, HalfWide, TooMany, Field}
+use Rattle.ebpf_code.specs.declared.fault.CodeWhy.{CodeWhy}
+use Rattle.ebpf_code.specs.declared.fault.CodeWhy.TheVariants.{Length, Opcode, Register, Backward, Beyond, Unset, NoExit, HalfWide, TooMany, Field}
 use Rattle.ebpf_code.specs.declared.fault.CodeFault.{CodeFault}
+use Rattle.ebpf_code.specs.declared.fault.OrMemory.{OrMemory}
+use Rattle.ebpf_code.specs.declared.fault.OrMemory.TheVariants.{Fault, NoMemory}
 use Rattle.ebpf_code.specs.declared.encoding.Encoding.{Encoding}
 use Rattle.ebpf_code.specs.declared.instruction.Instruction.{Instruction}
 use Rattle.ebpf_code.specs.declared.instruction.Slot.{Slot}
@@ -22,11 +24,15 @@ unfoldable pub is_second : List ℕ → ℕ → Bool
 is_second bytes zero = false
 is_second bytes (suc place) = (encoding_at bytes place).opcode == 0x18 && not (is_second bytes place)
 
+-- the instruction of a slot with these fields, if its opcode is in the table
+abbrev pub instruction_of : Encoding → Option Instruction
+instruction_of e = option_map (λ o. instruction o e) (operation_of e.opcode)
+
 -- the instruction that begins at a place, if one does
 unfoldable pub instruction_at : List ℕ → ℕ → Option Instruction
 instruction_at bytes place =
     if nat_lt place (slot_count bytes) && not (is_second bytes place)
-    then option_map (λ o. instruction o (encoding_at bytes place)) (operation_of (encoding_at bytes place).opcode)
+    then instruction_of (encoding_at bytes place)
     else None
 
 -- an instruction begins at a place, and this is so of it
@@ -36,7 +42,9 @@ At bytes place P = IsSomeAnd (instruction_at bytes place) P
 -- the slot at a place
 abbrev pub slot_at : List ℕ → ℕ → Option Slot
 slot_at bytes place =
-    if is_second bytes place then Some (HighHalf (encoding_at bytes place).immediate) else option_map Begins (instruction_at bytes place)
+    if is_second bytes place
+    then Some (HighHalf (encoding_at bytes place).immediate)
+    else option_map Begins (instruction_at bytes place)
 
 -- ---- paths, and the registers that are set on them
 
@@ -44,15 +52,16 @@ slot_at bytes place =
 -- successor of the one before it with a greater number.
 abbrev pub IsPath : List ℕ → ℕ → List ℕ → Type 0
 IsPath bytes place [] = place ≡ 0
-IsPath bytes place (last ∷ earlier) = (last < place) × At bytes last (λ i. IsTrue (leads last i place)) × IsPath bytes last earlier
+IsPath bytes place (last ∷ earlier) =
+    (last < place) × At bytes last (λ i. IsTrue (leads last i place)) × IsPath bytes last earlier
 
 -- whether a register is set after an instruction, from whether it was set before it
 abbrev pub set_after : Option Instruction → Bool → ℕ → Bool
 set_after None was r = was
 set_after (Some i) was r = if writes i r then true else (if spoils i r then false else was)
 
--- whether a register is set at the end of a path: the last instruction that writes or spoils it writes it. At the start
--- R1 alone is set.
+-- whether a register is set at the end of a path: the last instruction that writes or spoils it writes it. At the
+-- start R1 alone is set.
 abbrev pub is_set : List ℕ → List ℕ → ℕ → Bool
 is_set bytes [] r = r == 1
 is_set bytes (last ∷ earlier) r = set_after (instruction_at bytes last) (is_set bytes earlier r) r
@@ -109,10 +118,12 @@ ReadsUnset bytes place i =
 -- ---- all faults
 
 -- the bytes have this fault at this place
-abbrev pub HasFault : List ℕ → ℕ → Why → Type 0
+abbrev pub HasFault : List ℕ → ℕ → CodeWhy → Type 0
 HasFault bytes place Length = (place ≡ 0) × ((length bytes ≡ 0) ⊎ (length bytes % 8 ≢ 0))
 HasFault bytes place Opcode =
-    (place < slot_count bytes) × (is_second bytes place ≡ false) × (operation_of (encoding_at bytes place).opcode ≡ None)
+    (place < slot_count bytes)
+    × (is_second bytes place ≡ false)
+    × (operation_of (encoding_at bytes place).opcode ≡ None)
 HasFault bytes place Register = At bytes place (λ i. IsTrue (misuses_register i))
 HasFault bytes place Backward = At bytes place (λ i. IsTrue (goes_backward i))
 HasFault bytes place Beyond = At bytes place (λ i. IsTrue (goes_beyond (slot_count bytes) place i))
@@ -124,14 +135,14 @@ HasFault bytes place Field = At bytes place (λ i. IsTrue (misuses_field i (enco
 
 -- the bytes are a program
 abbrev pub NoFault : List ℕ → Type 0
-NoFault bytes = (place : ℕ) (why : Why) → HasFault bytes place why → ⊥
+NoFault bytes = (place : ℕ) (why : CodeWhy) → HasFault bytes place why → ⊥
 
 -- no fault is at this place
 abbrev pub HasNone : List ℕ → ℕ → Type 0
-HasNone bytes place = (why : Why) → HasFault bytes place why → ⊥
+HasNone bytes place = (why : CodeWhy) → HasFault bytes place why → ⊥
 
 -- the numbers of the faults
-abbrev pub number : Why → ℕ
+abbrev pub number : CodeWhy → ℕ
 number Length = 1
 number Opcode = 2
 number Register = 3
@@ -144,13 +155,13 @@ number TooMany = 9
 number Field = 10
 
 -- Length and TooMany come before all others
-abbrev pub turn : Why → ℕ
+abbrev pub turn : CodeWhy → ℕ
 turn Length = 0
 turn TooMany = 0
 turn why = 1
 
 -- a fault comes no later than another: by its turn, then by the place, then by the number
-abbrev pub IsNoLater : Why → ℕ → Why → ℕ → Type 0
+abbrev pub IsNoLater : CodeWhy → ℕ → CodeWhy → ℕ → Type 0
 IsNoLater why place other at =
     (turn why < turn other)
     ⊎ ((turn why ≡ turn other) × ((place < at) ⊎ ((place ≡ at) × (number why ≤ number other))))
@@ -159,8 +170,14 @@ IsNoLater why place other at =
 abbrev pub IsFirstFault : List ℕ → CodeFault → Type 0
 IsFirstFault bytes fault =
     HasFault bytes fault.place fault.why
-    × ((place : ℕ) (why : Why) → HasFault bytes place why → IsNoLater fault.why fault.place why place)
+    × ((place : ℕ) (why : CodeWhy) → HasFault bytes place why → IsNoLater fault.why fault.place why place)
 
 -- of the faults at this place it has the least number
-abbrev pub IsLeast : List ℕ → ℕ → Why → Type 0
-IsLeast bytes place why = HasFault bytes place why × ((other : Why) → HasFault bytes place other → number why ≤ number other)
+abbrev pub IsLeast : List ℕ → ℕ → CodeWhy → Type 0
+IsLeast bytes place why =
+    HasFault bytes place why × ((other : CodeWhy) → HasFault bytes place other → number why ≤ number other)
+
+-- a fault, and not want of memory
+abbrev pub IfFault : {E : Type 0} → (E → Type 0) → OrMemory E → Type 0
+IfFault P (Fault fault) = P fault
+IfFault P NoMemory = Unit {0}

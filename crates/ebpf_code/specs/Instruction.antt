@@ -125,16 +125,36 @@ abbrev pub is_indirect : LoadMode → Bool
 is_indirect Absolute = false
 is_indirect Indirect = true
 
+-- the fields of arithmetic and of conditional jumps: the register dst, the offset, and the register src or imm
+abbrev pub uses_of : Bool → Bool → Bool → Source → Uses
+uses_of reads_destination writes_destination offset s = record {
+  reads_destination = reads_destination;
+  writes_destination = writes_destination;
+  source = is_register s;
+  offset = offset;
+  immediate = is_immediate s;
+}
+
+-- no field
+abbrev pub no_uses : Uses
+no_uses = record {
+  reads_destination = false;
+  writes_destination = false;
+  source = false;
+  offset = false;
+  immediate = false;
+}
+
 -- the fields that an operation uses; all others are 0
 abbrev pub uses : Operation → Uses
-uses (Calculate w a s) = record { reads_destination = not (is_move a); writes_destination = true; source = is_register s; offset = false; immediate = is_immediate s }
-uses (Negate w) = record { reads_destination = true; writes_destination = true; source = false; offset = false; immediate = false }
-uses (SwapBytes o) = record { reads_destination = true; writes_destination = true; source = false; offset = false; immediate = true }
-uses LoadImmediate = record { reads_destination = false; writes_destination = true; source = false; offset = false; immediate = true }
-uses (LoadFrame m z) = record { reads_destination = false; writes_destination = false; source = is_indirect m; offset = false; immediate = true }
-uses Jump = record { reads_destination = false; writes_destination = false; source = false; offset = true; immediate = false }
-uses (Branch w c s) = record { reads_destination = true; writes_destination = false; source = is_register s; offset = true; immediate = is_immediate s }
-uses Exit = record { reads_destination = false; writes_destination = false; source = false; offset = false; immediate = false }
+uses (Calculate w a s) = uses_of (not (is_move a)) true false s
+uses (Negate w) = record no_uses { reads_destination = true; writes_destination = true }
+uses (SwapBytes o) = record no_uses { reads_destination = true; writes_destination = true; immediate = true }
+uses LoadImmediate = record no_uses { writes_destination = true; immediate = true }
+uses (LoadFrame m z) = record no_uses { source = is_indirect m; immediate = true }
+uses Jump = record no_uses { offset = true }
+uses (Branch w c s) = uses_of true false true s
+uses Exit = no_uses
 
 abbrev pub is_wide : Operation → Bool
 is_wide LoadImmediate = true
@@ -166,11 +186,20 @@ slots_of o = if is_wide o then 2 else 1
 
 -- an operation with the fields of its slot
 abbrev pub instruction : Operation → Encoding → Instruction
-instruction o e = record { operation = o; destination = e.destination; source = e.source; offset = e.offset; immediate = e.immediate }
+instruction o e = record {
+  operation = o;
+  destination = e.destination;
+  source = e.source;
+  offset = e.offset;
+  immediate = e.immediate;
+}
 
 -- the registers that it reads: those of its fields, and R0 at the end
 abbrev pub reads : Instruction → ℕ → Bool
-reads i r = ((uses i.operation).reads_destination && r == i.destination) || ((uses i.operation).source && r == i.source) || (is_exit i.operation && r == 0)
+reads i r =
+    ((uses i.operation).reads_destination && r == i.destination)
+    || ((uses i.operation).source && r == i.source)
+    || (is_exit i.operation && r == 0)
 
 -- the register that it writes: that of its field, and R0 at a load
 abbrev pub writes : Instruction → ℕ → Bool

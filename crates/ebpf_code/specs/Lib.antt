@@ -4,3 +4,5 @@ pub mod Faults
 pub mod Spelling
 pub mod Sets
 pub mod Program
+pub mod FirstFault
+pub mod Sound

@@ -1,13 +1,10 @@
 -- This project's own: the registers that are set on every path so far.
-use Rattle.std.specs.Prelude.{◌≡◌, ℕ, ◌*◌, ◌<◌, List, [], ◌∷◌, length, Option, Some, None, IsSomeAnd, IfSome, Bool, true, false, not, ◌&&◌, ◌||◌, slice_get, slice_index_or}
+use Rattle.std.specs.Prelude.{◌≡◌, ℕ, ◌*◌, ◌<◌, List, [], ◌∷◌, length, Option, Some, None, IsSomeAnd, IfSome, Bool, true, false, not, ◌&&◌, ◌||◌, slice_index_or}
 use Rattle.ebpf_code.specs.declared.set.RegisterSet.{RegisterSet}
-use Rattle.ebpf_code.specs.declared.fault.OrMemory.{OrMemory}
-use Rattle.ebpf_code.specs.declared.fault.OrMemory.TheVariants.{Fault, NoMemory}
-use Rattle.ebpf_code.specs.declared.instruction.Slot.{Slot}
 use Rattle.ebpf_code.specs.declared.decoded.Decoded.{Decoded}
 use Rattle.ebpf_code.specs.declared.instruction.Instruction.{Instruction}
-use Rattle.ebpf_code.specs.Instruction.{instruction, uses, is_exit}
-use Rattle.ebpf_code.specs.Faults.{IsPath, is_set, is_second, slot_at}
+use Rattle.ebpf_code.specs.Instruction.{instruction, uses, is_exit, goes_forward, target}
+use Rattle.ebpf_code.specs.Faults.{IsPath, is_set, is_second}
 
 -- the instruction that was read
 abbrev pub read : Decoded → Instruction
@@ -45,9 +42,11 @@ IsBelow k (last ∷ earlier) = last < k
 -- over the paths to a place that go only through places below k: the set of the registers that are set on each of them,
 -- or none where there is no such path
 pub record IsKept (bytes : List ℕ) (k place : ℕ) (kept : Option RegisterSet) : Type 0 where
-  pub sound : (path : List ℕ) → IsPath bytes place path → IsBelow k path → IsSomeAnd kept (λ s. (r : ℕ) → r < 11 → holds s r ≡ true → is_set bytes path r ≡ true)
+  pub sound : (path : List ℕ) → IsPath bytes place path → IsBelow k path
+      → IsSomeAnd kept (λ s. (r : ℕ) → r < 11 → holds s r ≡ true → is_set bytes path r ≡ true)
   pub reached : IfSome kept (λ s. (path : List ℕ) × IsPath bytes place path × IsBelow k path)
-  pub unset : IfSome kept (λ s. (r : ℕ) → r < 11 → holds s r ≡ false → (path : List ℕ) × IsPath bytes place path × IsBelow k path × (is_set bytes path r ≡ false))
+  pub unset : IfSome kept (λ s. (r : ℕ) → r < 11 → holds s r ≡ false
+      → (path : List ℕ) × IsPath bytes place path × IsBelow k path × (is_set bytes path r ≡ false))
 
 -- what is kept for a place
 abbrev pub kept_at : List (Option RegisterSet) → ℕ → Option RegisterSet
@@ -57,17 +56,11 @@ kept_at sets place = slice_index_or sets place None
 abbrev pub AreKept : List ℕ → ℕ → List (Option RegisterSet) → Type 0
 AreKept bytes k sets = (place : ℕ) → place < length sets → IsKept bytes k place (kept_at sets place)
 
+-- it jumps to a place that is flagged
+abbrev pub enters_flagged : List Bool → ℕ → Instruction → Bool
+enters_flagged flags place i = goes_forward i && slice_index_or flags (target place i) false
+
 -- the flags say which places are second slots, and there is one for each slot
 pub record AreSeconds (bytes : List ℕ) (seconds : List Bool) : Type 0 where
   pub aligned : length bytes ≡ 8 * length seconds
   pub each : (place : ℕ) → place < length seconds → slice_index_or seconds place false ≡ is_second bytes place
-
--- a fault, and not want of memory
-abbrev pub IfFault : {E : Type 0} → (E → Type 0) → OrMemory E → Type 0
-IfFault P (Fault fault) = P fault
-IfFault P NoMemory = Unit {0}
-
--- these are the slots of the bytes
-pub record AreSlots (bytes : List ℕ) (slots : List Slot) : Type 0 where
-  pub aligned : length bytes ≡ 8 * length slots
-  pub each : (place : ℕ) → place < length slots → slice_get slots place ≡ slot_at bytes place

@@ -8,7 +8,7 @@ ghost use Rattle.ebpf_code.specs.Sets.{read, holds, kept_holds, kept_lacks, Meet
 
 use crate::decoded::{Decoded, is_plain};
 use crate::encoding::Encoding;
-use crate::fault::Why;
+use crate::fault::CodeWhy;
 use crate::instruction::Slot;
 use crate::set::RegisterSet;
 use std::alloc::{AllocError, Global};
@@ -35,7 +35,7 @@ pub fn check(
     seconds: &[bool],
     place: usize,
     kept: &Option<RegisterSet>,
-) -> Result<Decoded, Why>
+) -> Result<Decoded, CodeWhy>
     requires seconds { AreSeconds bytes.now seconds.now }
     requires within { place < length seconds.now }
     requires few { length seconds.now ≤ 4096 }
@@ -46,28 +46,28 @@ pub fn check(
     ensures fault { IfErr result (IsLeast bytes.now place) }
 {
     let Some(decoded) = Decoded::at(bytes, place) else {
-        return Err(Why::Opcode);
+        return Err(CodeWhy::Opcode);
     };
     if decoded.misuses_register() {
-        return Err(Why::Register);
+        return Err(CodeWhy::Register);
     }
     if decoded.goes_backward() {
-        return Err(Why::Backward);
+        return Err(CodeWhy::Backward);
     }
     if decoded.goes_beyond(seconds.len(), place) {
-        return Err(Why::Beyond);
+        return Err(CodeWhy::Beyond);
     }
     if lacks_read(kept, &decoded) {
-        return Err(Why::Unset);
+        return Err(CodeWhy::Unset);
     }
     if decoded.lacks_exit(seconds.len(), place) {
-        return Err(Why::NoExit);
+        return Err(CodeWhy::NoExit);
     }
     if decoded.enters(seconds, place) {
-        return Err(Why::HalfWide);
+        return Err(CodeWhy::HalfWide);
     }
     if misuses_field(bytes, place, &decoded) {
-        return Err(Why::Field);
+        return Err(CodeWhy::Field);
     }
     Ok(decoded)
 }

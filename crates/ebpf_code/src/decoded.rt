@@ -1,9 +1,11 @@
-ghost use Rattle.std.specs.Prelude.{◌≡◌, ◌+◌, ◌*◌, ◌^◌, ◌<◌, ◌≤◌, ◌&&◌, false, length, slice_index_or};
+//! An instruction as it was read, before it is known to have no fault.
+
+ghost use Rattle.std.specs.Prelude.{◌≡◌, ◌+◌, ◌*◌, ◌^◌, ◌<◌, ◌≤◌, length};
 ghost use Rattle.std.specs.Option.{option_map};
 ghost use Rattle.ebpf_code.specs.Encoding.{encoding_at};
-ghost use Rattle.ebpf_code.specs.Instruction.{instruction, operation_of, writes, spoils, goes_backward, goes_forward, target};
-ghost use Rattle.ebpf_code.specs.Faults.{misuses_register, goes_beyond, lacks_exit, has_stray_field, is_swap_width, is_plain};
-ghost use Rattle.ebpf_code.specs.Sets.{read};
+ghost use Rattle.ebpf_code.specs.Instruction.{writes, spoils, goes_backward, goes_forward, target};
+ghost use Rattle.ebpf_code.specs.Faults.{instruction_of, misuses_register, goes_beyond, lacks_exit, has_stray_field, is_swap_width, is_plain};
+ghost use Rattle.ebpf_code.specs.Sets.{read, enters_flagged};
 
 use crate::encoding::Encoding;
 use crate::instruction::Instruction;
@@ -21,7 +23,7 @@ impl Decoded {
     /// The instruction whose first slot is at a place, or none where its opcode isn't in the table.
     pub fn at(bytes: &[u8], place: usize) -> Option<Decoded>
         requires { 8 * place + 8 ≤ length bytes.now }
-        ensures { option_map read result ≡ option_map (λ o. instruction o (encoding_at bytes.now place)) (operation_of (encoding_at bytes.now place).opcode) }
+        ensures { option_map read result ≡ instruction_of (encoding_at bytes.now place) }
     {
         let encoding = Encoding::at(bytes, place);
         match Operation::of(encoding.opcode) {
@@ -121,7 +123,7 @@ impl Decoded {
     /// Whether it jumps to a place that is flagged.
     pub fn enters(&self, seconds: &[bool], place: usize) -> bool
         requires { place < 2 ^ 32 }
-        ensures { result ≡ (goes_forward (read self.now) && slice_index_or seconds.now (target place (read self.now)) false) }
+        ensures { result ≡ enters_flagged seconds.now place (read self.now) }
     {
         let target = self.target(place);
         self.goes_forward() && target < seconds.len() && seconds[target]

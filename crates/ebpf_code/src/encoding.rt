@@ -1,3 +1,5 @@
+//! The fields of a slot.
+
 ghost use Rattle.std.specs.Prelude.{◌≡◌, ◌+◌, ◌*◌, ◌<◌, ◌≤◌, length};
 ghost use Rattle.ebpf_code.specs.Encoding.{encoding_at};
 

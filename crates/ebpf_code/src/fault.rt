@@ -8,7 +8,7 @@ use std::alloc::{AllocError, AllocFailed};
 
 /// What is wrong at a place of a program.
 #[derive(Clone, Copy, Debug, PartialEq, Eq)]
-pub enum Why {
+pub enum CodeWhy {
     /// There are no bytes, or their number is no multiple of 8.
     Length,
     /// The opcode isn't in the table.
@@ -31,22 +31,22 @@ pub enum Why {
     Field,
 }
 
-impl Why {
+impl CodeWhy {
     /// The number of the fault, 1 to 10.
     pub fn number(self) -> u8
         ensures { result ≡ number self }
     {
         match self {
-            Why::Length => 1,
-            Why::Opcode => 2,
-            Why::Register => 3,
-            Why::Backward => 4,
-            Why::Beyond => 5,
-            Why::Unset => 6,
-            Why::NoExit => 7,
-            Why::HalfWide => 8,
-            Why::TooMany => 9,
-            Why::Field => 10,
+            CodeWhy::Length => 1,
+            CodeWhy::Opcode => 2,
+            CodeWhy::Register => 3,
+            CodeWhy::Backward => 4,
+            CodeWhy::Beyond => 5,
+            CodeWhy::Unset => 6,
+            CodeWhy::NoExit => 7,
+            CodeWhy::HalfWide => 8,
+            CodeWhy::TooMany => 9,
+            CodeWhy::Field => 10,
         }
     }
 }
@@ -54,7 +54,7 @@ impl Why {
 /// A fault, and the slot at which it is: 0 to 4,096.
 #[derive(Clone, Copy, Debug, PartialEq, Eq)]
 pub struct CodeFault {
-    pub why: Why,
+    pub why: CodeWhy,
     pub place: u16,
 }
 

@@ -1,3 +1,5 @@
+//! Instructions and slots.
+
 use crate::operation::Operation;
 use crate::register::Register;
 

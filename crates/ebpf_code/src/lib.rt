@@ -13,6 +13,7 @@ mod decoded;
 mod encoding;
 mod fault;
 mod instruction;
+mod laws;
 mod operation;
 mod pass;
 mod program;
@@ -20,8 +21,9 @@ mod register;
 mod set;
 
 pub use encoding::Encoding;
-pub use fault::{CodeFault, OrMemory, Why};
+pub use fault::{CodeFault, CodeWhy, OrMemory};
 pub use instruction::{Instruction, Slot};
+pub use laws::{first_fault_laws, program_laws};
 pub use operation::{
     Arithmetic, ByteOrder, Condition, LoadMode, LoadSize, Operation, Source, Uses, Width,
 };

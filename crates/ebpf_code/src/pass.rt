@@ -1,14 +1,15 @@
 //! The one pass over the slots of a program.
 
 ghost use Rattle.std.specs.Prelude.{◌≡◌, ℕ, ◌+◌, ◌*◌, ◌<◌, ◌≤◌, ◌&&◌, length, Some, None, true, false, IfOk, IfErr, OnOk, OnErr, slice_get, slice_index_or, slice_set};
-ghost use Rattle.ebpf_code.specs.Faults.{is_second, slot_at, goes_beyond, lacks_exit, HasNone, IsLeast, NoFault, IsFirstFault};
+ghost use Rattle.ebpf_code.specs.Faults.{is_second, slot_at, goes_beyond, lacks_exit, HasNone, IsLeast, NoFault, IsFirstFault, IfFault};
 ghost use Rattle.ebpf_code.specs.Instruction.{leads};
-ghost use Rattle.ebpf_code.specs.Sets.{read, holds, kept_holds, Meets, AreKept, AreSeconds, kept_at, AreSlots, IfFault};
+ghost use Rattle.ebpf_code.specs.Sets.{read, holds, kept_holds, Meets, AreKept, AreSeconds, kept_at};
+ghost use Rattle.ebpf_code.specs.Program.{AreSlots};
 
 use crate::check::check;
 use crate::decoded::Decoded;
 use crate::encoding::Encoding;
-use crate::fault::{CodeFault, OrMemory, Why};
+use crate::fault::{CodeFault, CodeWhy, OrMemory};
 use crate::instruction::Slot;
 use crate::set::RegisterSet;
 use std::alloc::{AllocError, Global};
@@ -40,7 +41,8 @@ fn spread(sets: &mut [Option<RegisterSet>], place: usize, decoded: &Decoded, set
     requires here { place < length sets.old }
     requires within { goes_beyond (length sets.old) place (read decoded.now) ≡ false }
     requires exit { lacks_exit (length sets.old) place (read decoded.now) ≡ false }
-    ensures next { (p : ℕ) → leads place (read decoded.now) p ≡ true → Meets (kept_at sets.old p) set.now (kept_at sets.new p) }
+    ensures next { (p : ℕ) → leads place (read decoded.now) p ≡ true
+        → Meets (kept_at sets.old p) set.now (kept_at sets.new p) }
     ensures others { (p : ℕ) → leads place (read decoded.now) p ≡ false → kept_at sets.new p ≡ kept_at sets.old p }
 {
     if decoded.operation.falls_through() {
@@ -57,7 +59,7 @@ fn next_slot(
     seconds: &[bool],
     place: usize,
     sets: &mut [Option<RegisterSet>],
-) -> Result<Slot, Why>
+) -> Result<Slot, CodeWhy>
     requires seconds { AreSeconds bytes.now seconds.now }
     requires within { place < length seconds.now }
     requires few { length seconds.now ≤ 4096 }

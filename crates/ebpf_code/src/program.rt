@@ -1,10 +1,13 @@
+//! Programs: bytes in, bytes out.
+
 ghost use Rattle.std.specs.Prelude.{◌≡◌, ◌*◌, ◌++◌, length, IfOk, OnOk, IfErr};
-ghost use Rattle.ebpf_code.specs.Faults.{NoFault, IsFirstFault};
-ghost use Rattle.ebpf_code.specs.Sets.{AreSlots, IfFault};
+ghost use Rattle.ebpf_code.specs.Faults.{NoFault, IsFirstFault, IfFault};
+ghost use Rattle.ebpf_code.specs.Program.{AreSlots};
+ghost use Rattle.ebpf_code.specs.Sound.{IsSound};
 ghost use Rattle.ebpf_code.specs.Spelling.{slot_bytes, spelling};
 
 use crate::check::second_slots;
-use crate::fault::{CodeFault, OrMemory, Why};
+use crate::fault::{CodeFault, CodeWhy, OrMemory};
 use crate::instruction::{Instruction, Slot};
 use crate::pass::slots_of;
 use std::alloc::{AllocError, Global};
@@ -36,10 +39,11 @@ impl Program {
         self.slots.len() as u16
     }
 
-    /// The slots, and that the program has no fault.
+    /// The slots, and that the program has no fault and so can be run.
     pub fn slots(&self) -> &[Slot]
         ensures slots { AreSlots self.now result.now }
         ensures sound { NoFault self.now }
+        ensures runs { IsSound self.now }
     {
         &self.slots
     }
@@ -53,13 +57,13 @@ pub fn accept(alloc: Global, bytes: &[u8]) -> Result<Program, OrMemory<CodeFault
 {
     if bytes.is_empty() || bytes.len() % 8 != 0 {
         return Err(OrMemory::Fault(CodeFault {
-            why: Why::Length,
+            why: CodeWhy::Length,
             place: 0,
         }));
     }
     if bytes.len() / 8 > 4096 {
         return Err(OrMemory::Fault(CodeFault {
-            why: Why::TooMany,
+            why: CodeWhy::TooMany,
             place: 4096,
         }));
     }

@@ -1,3 +1,5 @@
+//! Sets of registers.
+
 ghost use Rattle.std.specs.Prelude.{◌≡◌, ℕ, ◌<◌, ◌&&◌, ◌==◌, Some, not, false};
 ghost use Rattle.ebpf_code.specs.Instruction.{writes, spoils};
 ghost use Rattle.ebpf_code.specs.Faults.{set_after, misuses_register};

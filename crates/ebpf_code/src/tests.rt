@@ -1,3 +1,5 @@
+//! Programs that are accepted, and the fault of each that is not.
+
 ghost use Rattle.std.specs.Prelude.{◌<◌};
 
 use super::*;
@@ -317,7 +319,7 @@ fn numbers_and_lengths(rt: HostRuntime) -> Result<(), Fail> {
     let program = accept(rt.alloc(), &bytes).ok().ok_or("a program")?;
     assert_eq!(rt; program.len(), 2);
     assert_eq!(rt; program.slots().len(), 2);
-    assert_eq!(rt; Why::Length.number(), 1);
-    assert_eq!(rt; Why::Field.number(), 10);
+    assert_eq!(rt; CodeWhy::Length.number(), 1);
+    assert_eq!(rt; CodeWhy::Field.number(), 10);
     Ok(())
 }

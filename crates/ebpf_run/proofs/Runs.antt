@@ -6,7 +6,8 @@ use Rattle.ebpf_code.specs.declared.operation.Operation.{Operation}
 use Rattle.ebpf_code.specs.declared.operation.Operation.TheVariants.{Calculate, Negate, SwapBytes, LoadImmediate, LoadFrame, Jump, Branch, Exit}
 use Rattle.ebpf_code.specs.declared.instruction.Instruction.{Instruction}
 use Rattle.ebpf_code.specs.Instruction.{target}
-use Rattle.ebpf_code.specs.Faults.{slot_count, is_second, instruction_at, NoFault}
+use Rattle.ebpf_code.specs.Faults.{slot_count, is_second, instruction_at}
+use Rattle.ebpf_code.specs.Sound.{IsSound}
 use Rattle.ebpf_run.specs.declared.machine.Next.TheVariants.{At, End}
 use Rattle.ebpf_run.specs.Calculation.{is_met}
 use Rattle.ebpf_run.specs.Meaning.{Registers, start, operand, left, index_of, number_at, Outcome, Goes, Ends, Stuck, with_value, loaded, act, act_at, step, Case, IfGoes, EndsAfter, GoesForward, Reaches, answer, end_within, result_of, instructions_below, instruction_count}
@@ -54,13 +55,13 @@ one_more program frame place k (Ends v) within begins enough c rest =
     (0, v, omega (arith, grows), (refl, refl))
 one_more program frame place k Stuck within begins enough c rest = absurd c
 
-ends_from : (program frame : List ℕ) → NoFault program → (k place : ℕ) (g : Registers) → slot_count program ≤ place + k → Good program place g → (n : ℕ) × (r : ℕ) × (n + instructions_below program place ≤ instruction_count program) × EndsAfter program frame n place g r
+ends_from : (program frame : List ℕ) → IsSound program → (k place : ℕ) (g : Registers) → slot_count program ≤ place + k → Good program place g → (n : ℕ) × (r : ℕ) × (n + instructions_below program place ≤ instruction_count program) × EndsAfter program frame n place g r
 ends_from program frame sound zero place g enough good = let within = good.within in absurd (omega arith)
 ends_from program frame sound (suc k) place g enough good =
     let x = one_more program frame place k (step program frame place g) good.within good.begins enough (go_on program sound frame place g good) (ends_from program frame sound k) in
     (suc x.0, x.1, x.2, x.3)
 
-pub ends : (program frame : List ℕ) → NoFault program → Good program 0 (start frame) → (n : ℕ) × (r : ℕ) × (n ≤ instruction_count program) × EndsAfter program frame n 0 (start frame) r
+pub ends : (program frame : List ℕ) → IsSound program → Good program 0 (start frame) → (n : ℕ) × (r : ℕ) × (n ≤ instruction_count program) × EndsAfter program frame n 0 (start frame) r
 ends program frame sound good =
     let x = ends_from program frame sound (slot_count program) 0 (start frame) (omega arith) good in
     (x.0, x.1, omega (arith, x.2), x.3)
@@ -118,7 +119,7 @@ forward program frame place g = forward_at program frame place (instruction_at p
 
 -- ---- never stuck
 
-pub reached : (program frame : List ℕ) → NoFault program → Good program 0 (start frame) → (n place : ℕ) (g : Registers) → Reaches program frame n place g → Good program place g
+pub reached : (program frame : List ℕ) → IsSound program → Good program 0 (start frame) → (n place : ℕ) (g : Registers) → Reaches program frame n place g → Good program place g
 reached program frame sound first zero place g r =
     subst (λ h. Good program place h) (sym r.1) (subst (λ p. Good program p (start frame)) (sym r.0) first)
 reached program frame sound first (suc n) place g r =
@@ -126,7 +127,7 @@ reached program frame sound first (suc n) place g r =
     let next : Case (Goes place g) (λ p h. (r.0 < p) × Good program p h) (λ v. Unit {0}) = subst (λ o. Case o (λ p h. (r.0 < p) × Good program p h) (λ v. Unit {0})) r.3 (go_on program sound frame r.0 r.1 before) in
     next.1
 
-pub not_stuck : (program frame : List ℕ) → NoFault program → (place : ℕ) (g : Registers) → Good program place g → step program frame place g ≡ Stuck → ⊥
+pub not_stuck : (program frame : List ℕ) → IsSound program → (place : ℕ) (g : Registers) → Good program place g → step program frame place g ≡ Stuck → ⊥
 not_stuck program frame sound place g good e =
     subst (λ o. Case o (λ p h. (place < p) × Good program p h) (λ v. Unit {0})) e (go_on program sound frame place g good)
 
@@ -161,7 +162,7 @@ next_from program frame numbers place t p (Goes q g) at new on c f =
 next_from program frame numbers place t p (Ends v) at new on c f = absurd f
 next_from program frame numbers place t p Stuck at new on c f = absurd c
 
-pub going_next : (program frame numbers new : List ℕ) (place t p : ℕ) → NoFault program → (at : Going program frame numbers place t) → ((g : Registers) → Holds numbers g → Follows (step program frame place g) (At p) new) → Going program frame new p (t + 1)
+pub going_next : (program frame numbers new : List ℕ) (place t p : ℕ) → IsSound program → (at : Going program frame numbers place t) → ((g : Registers) → Holds numbers g → Follows (step program frame place g) (At p) new) → Going program frame new p (t + 1)
 going_next program frame numbers new place t p sound at f =
     next_from program frame numbers place t p (step program frame place at.registers) at new
     (λ n r e. at.on (suc n) r e)
@@ -174,7 +175,7 @@ last_from program frame numbers place t r (Ends v) new on c f =
     subst (λ m. EndsAfter program frame m 0 (start frame) r) (let z : 1 + t ≡ t + 1 = omega arith in z) (on 0 r (refl, sym f))
 last_from program frame numbers place t r Stuck new on c f = absurd c
 
-pub going_last : (program frame numbers new : List ℕ) (place t r : ℕ) → NoFault program → (at : Going program frame numbers place t) → ((g : Registers) → Holds numbers g → Follows (step program frame place g) (End r) new) → EndsAfter program frame (t + 1) 0 (start frame) r
+pub going_last : (program frame numbers new : List ℕ) (place t r : ℕ) → IsSound program → (at : Going program frame numbers place t) → ((g : Registers) → Holds numbers g → Follows (step program frame place g) (End r) new) → EndsAfter program frame (t + 1) 0 (start frame) r
 going_last program frame numbers new place t r sound at f =
     last_from program frame numbers place t r (step program frame place at.registers) new (λ n v e. at.on (suc n) v e)
     (go_on program sound frame place at.registers at.good)

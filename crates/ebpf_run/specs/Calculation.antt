@@ -63,7 +63,8 @@ negated Bits32 x = (2 ^ 32 - low_half x) % 2 ^ 32
 abbrev pub swapped : ByteOrder → ℕ → ℕ → ℕ
 swapped Little bits x = if bits == 16 then x % 2 ^ 16 else (if bits == 32 then x % 2 ^ 32 else x)
 swapped Big bits x =
-    if bits == 16 then swap_bytes w16 (x % 2 ^ 16) else (if bits == 32 then swap_bytes w32 (x % 2 ^ 32) else swap_bytes w64 x)
+    if bits == 16 then swap_bytes w16 (x % 2 ^ 16)
+    else (if bits == 32 then swap_bytes w32 (x % 2 ^ 32) else swap_bytes w64 x)
 
 -- 4.3: a condition of numbers of some width, which are signed where it says so
 abbrev pub compared : IntegerWidth → Condition → ℕ → ℕ → Bool

@@ -1,3 +1,4 @@
 pub mod Calculation
 pub mod Meaning
 pub mod Machine
+pub mod Laws

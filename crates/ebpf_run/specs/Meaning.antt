@@ -72,8 +72,8 @@ index_of Indirect i registers = low_sum i.immediate (registers i.source)
 
 -- ---- steps
 
--- what comes after an instruction: another place with other registers, the end with a result, or nothing, where it reads
--- a register that isn't set or where no instruction begins
+-- what comes after an instruction: another place with other registers, the end with a result, or nothing, where it
+-- reads a register that isn't set or where no instruction begins
 pub data Outcome : Type 0 where
   Goes : (place : ℕ) (registers : ℕ → Option ℕ) → Outcome
   Ends : (result : ℕ) → Outcome
@@ -92,18 +92,22 @@ loaded (Some x) place registers = Goes (place + 1) (write (spoil registers) 0 x)
 -- one instruction of the program, at its place
 abbrev pub act : Operation → Instruction → List ℕ → List ℕ → ℕ → Registers → Outcome
 act (Calculate w a s) i program frame place registers =
-    with_value (left a i registers) (λ x. with_value (operand s i registers) (λ y. Goes (place + 1) (write registers i.destination (calculated w a x y))))
+    with_value (left a i registers) (λ x. with_value (operand s i registers) (λ y.
+    Goes (place + 1) (write registers i.destination (calculated w a x y))))
 act (Negate w) i program frame place registers =
     with_value (registers i.destination) (λ x. Goes (place + 1) (write registers i.destination (negated w x)))
 act (SwapBytes o) i program frame place registers =
-    with_value (registers i.destination) (λ x. Goes (place + 1) (write registers i.destination (swapped o i.immediate x)))
+    with_value (registers i.destination) (λ x.
+    Goes (place + 1) (write registers i.destination (swapped o i.immediate x)))
 act LoadImmediate i program frame place registers =
-    Goes (place + 2) (write registers i.destination (i.immediate + 2 ^ 32 * (encoding_at program (place + 1)).immediate))
+    Goes (place + 2)
+    (write registers i.destination (i.immediate + 2 ^ 32 * (encoding_at program (place + 1)).immediate))
 act (LoadFrame m z) i program frame place registers =
     with_value (index_of m i registers) (λ index. loaded (number_at frame index z) place registers)
 act Jump i program frame place registers = Goes (target place i) registers
 act (Branch w c s) i program frame place registers =
-    with_value (registers i.destination) (λ x. with_value (operand s i registers) (λ y. Goes (if is_met w c x y then target place i else place + 1) registers))
+    with_value (registers i.destination) (λ x. with_value (operand s i registers) (λ y.
+    Goes (if is_met w c x y then target place i else place + 1) registers))
 act Exit i program frame place registers = with_value (registers 0) (λ x. Ends (low_half x))
 
 -- the instruction that begins at a place, if one does
@@ -133,7 +137,9 @@ IfGoes Stuck on = Unit {0}
 abbrev pub EndsAfter : List ℕ → List ℕ → ℕ → ℕ → Registers → ℕ → Type 0
 EndsAfter program frame zero place registers result = ⊥
 EndsAfter program frame (suc n) place registers result =
-    Case (step program frame place registers) (λ p g. EndsAfter program frame n p g result) (λ r. (n ≡ 0) × (r ≡ result))
+    Case (step program frame place registers)
+    (λ p g. EndsAfter program frame n p g result)
+    (λ r. (n ≡ 0) × (r ≡ result))
 
 -- a step leads only to later places
 abbrev pub GoesForward : List ℕ → List ℕ → ℕ → Registers → Type 0
@@ -153,7 +159,8 @@ answer Stuck on = None
 
 abbrev pub end_within : List ℕ → List ℕ → ℕ → ℕ → Registers → Option ℕ
 end_within program frame zero place registers = None
-end_within program frame (suc n) place registers = answer (step program frame place registers) (end_within program frame n)
+end_within program frame (suc n) place registers =
+    answer (step program frame place registers) (end_within program frame n)
 
 -- the low half of R0 where the steps from place 0 end
 unfoldable pub result_of : List ℕ → List ℕ → ℕ

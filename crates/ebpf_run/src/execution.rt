@@ -1,10 +1,12 @@
-ghost use Rattle.std.specs.Prelude.{◌≡◌, ℕ, ◌+◌, ◌-◌, ◌<◌, ◌≤◌, List, Option};
-ghost use Rattle.ebpf_code.specs.Faults.{NoFault};
-ghost use Rattle.ebpf_run.specs.Meaning.{Registers, start, step, EndsAfter, GoesForward, Reaches, Stuck, result_of, instruction_count};
+//! The run of a program.
+
+ghost use Rattle.std.specs.Prelude.{◌≡◌, ◌+◌, ◌-◌, ◌<◌, ◌≤◌};
+ghost use Rattle.ebpf_run.specs.Laws.{ProgramsEnd, ProgramsNeverStick, ProgramsGoForward};
+ghost use Rattle.ebpf_run.specs.Meaning.{start, EndsAfter, result_of, instruction_count};
 
 use crate::machine::{Machine, Next};
 use crate::steps::Steps;
-use ebpf_code::Program;
+use ebpf_code::{Program, program_laws};
 use std::marker::Brand;
 use std::sync::ledger::{Blank, Ledger};
 
@@ -46,7 +48,9 @@ fn evaluate_on<L: Ledger>(program: &Program, frame: &[u8], blank: Blank) -> u32
 /// A program without faults is never stuck: it goes only forward, and on each frame it ends, with at most
 /// as many steps as it has instructions.
 pub fn never_stuck()
-    ensures ends { (program frame : List ℕ) → NoFault program → (steps result : ℕ) × (steps ≤ instruction_count program) × EndsAfter program frame steps 0 (start frame) result }
-    ensures stuck { (program frame : List ℕ) (steps place : ℕ) (registers : ℕ → Option ℕ) → NoFault program → Reaches program frame steps place registers → step program frame place registers ≡ Stuck → ⊥ }
-    ensures forward { (program frame : List ℕ) (place : ℕ) (registers : ℕ → Option ℕ) → NoFault program → GoesForward program frame place registers }
-{}
+    ensures ends { ProgramsEnd }
+    ensures stuck { ProgramsNeverStick }
+    ensures forward { ProgramsGoForward }
+{
+    program_laws();
+}

@@ -2,9 +2,10 @@
 
 ghost use Rattle.std.specs.Prelude.{◌≡◌, ℕ, ◌+◌, ◌*◌, ◌^◌, ◌<◌, ◌≤◌, List, Option, Some, true, false, length, slice_index};
 ghost use Rattle.ebpf_code.specs.Encoding.{encoding_at};
-ghost use Rattle.ebpf_code.specs.Faults.{instruction_at, is_second, slot_count, NoFault};
-ghost use Rattle.ebpf_run.specs.Meaning.{start, write, spoil, operand, left, index_of, number_at, loaded, act, step};
-ghost use Rattle.ebpf_run.specs.Machine.{Holds, Follows, Reads};
+ghost use Rattle.ebpf_code.specs.Faults.{instruction_at, is_second, slot_count};
+ghost use Rattle.ebpf_code.specs.Sound.{IsSound};
+ghost use Rattle.ebpf_run.specs.Meaning.{start, write, spoil, operand, left, index_of, number_at, loaded, step};
+ghost use Rattle.ebpf_run.specs.Machine.{Holds, Follows, Reads, Acts};
 
 use crate::calculation::{calculated, is_met, low_half, negated, sign_extended, swapped};
 use ebpf_code::{
@@ -61,7 +62,8 @@ impl Machine {
     pub fn step(&mut self, program: &Program, frame: &[u8], place: usize) -> Next
         requires within { place < slot_count program.now }
         requires begins { is_second program.now place ≡ false }
-        ensures { (g : ℕ → Option ℕ) → Holds self.old.registers g → Follows (step program.now frame.now place g) result self.new.registers }
+        ensures { (g : ℕ → Option ℕ) → Holds self.old.registers g
+            → Follows (step program.now frame.now place g) result self.new.registers }
     {
         match &program.slots()[place] {
             Slot::Begins(instruction) => self.act(program, frame, place, instruction),
@@ -79,8 +81,9 @@ impl Machine {
         requires within { place < slot_count program.now }
         requires few { place < 2 ^ 32 }
         requires found { instruction_at program.now place ≡ Some instruction.now }
-        requires sound { NoFault program.now }
-        ensures { (g : ℕ → Option ℕ) → Holds self.old.registers g → Follows (act instruction.now.operation instruction.now program.now frame.now place g) result self.new.registers }
+        requires sound { IsSound program.now }
+        ensures { Acts instruction.now.operation instruction.now program.now frame.now place
+            self.old.registers result self.new.registers }
     {
         match instruction.operation {
             Operation::Calculate(width, arithmetic, source) => {
@@ -109,7 +112,9 @@ impl Machine {
         place: usize,
     ) -> Next
         requires { place < 2 ^ 32 }
-        ensures { (program frame : List ℕ) (g : ℕ → Option ℕ) → Holds self.old.registers g → Follows (act (Operation.Calculate width arithmetic source) instruction.now program frame place g) result self.new.registers }
+        ensures { (program frame : List ℕ) →
+            Acts (Operation.Calculate width arithmetic source) instruction.now program frame place
+            self.old.registers result self.new.registers }
     {
         let x = self.read(instruction.destination);
         let y = self.operand(source, instruction);
@@ -119,7 +124,9 @@ impl Machine {
 
     fn negate(&mut self, width: Width, instruction: &Instruction, place: usize) -> Next
         requires { place < 2 ^ 32 }
-        ensures { (program frame : List ℕ) (g : ℕ → Option ℕ) → Holds self.old.registers g → Follows (act (Operation.Negate width) instruction.now program frame place g) result self.new.registers }
+        ensures { (program frame : List ℕ) →
+            Acts (Operation.Negate width) instruction.now program frame place
+            self.old.registers result self.new.registers }
     {
         let x = self.read(instruction.destination);
         self.write(instruction.destination, negated(width, x));
@@ -128,7 +135,9 @@ impl Machine {
 
     fn swap_bytes(&mut self, order: ByteOrder, instruction: &Instruction, place: usize) -> Next
         requires { place < 2 ^ 32 }
-        ensures { (program frame : List ℕ) (g : ℕ → Option ℕ) → Holds self.old.registers g → Follows (act (Operation.SwapBytes order) instruction.now program frame place g) result self.new.registers }
+        ensures { (program frame : List ℕ) →
+            Acts (Operation.SwapBytes order) instruction.now program frame place
+            self.old.registers result self.new.registers }
     {
         let x = self.read(instruction.destination);
         self.write(
@@ -142,7 +151,9 @@ impl Machine {
         requires here { place < 2 ^ 32 }
         requires within { place + 1 < slot_count program.now }
         requires second { is_second program.now (place + 1) ≡ true }
-        ensures { (frame : List ℕ) (g : ℕ → Option ℕ) → Holds self.old.registers g → Follows (act Operation.LoadImmediate instruction.now program.now frame place g) result self.new.registers }
+        ensures { (frame : List ℕ) →
+            Acts Operation.LoadImmediate instruction.now program.now frame place
+            self.old.registers result self.new.registers }
     {
         let high = high_half(program, place + 1);
         let value = u64::from(instruction.immediate) + 0x1_0000_0000 * u64::from(high);
@@ -171,7 +182,9 @@ impl Machine {
         place: usize,
     ) -> Next
         requires { place < 2 ^ 32 }
-        ensures { (program : List ℕ) (g : ℕ → Option ℕ) → Holds self.old.registers g → Follows (act (Operation.LoadFrame mode size) instruction.now program frame.now place g) result self.new.registers }
+        ensures { (program : List ℕ) →
+            Acts (Operation.LoadFrame mode size) instruction.now program frame.now place
+            self.old.registers result self.new.registers }
     {
         let index = self.index(mode, instruction);
         match number_at(frame, index as usize, size) {
@@ -192,7 +205,9 @@ impl Machine {
         place: usize,
     ) -> Next
         requires { place < 2 ^ 32 }
-        ensures { (program frame : List ℕ) (g : ℕ → Option ℕ) → Holds self.old.registers g → Follows (act (Operation.Branch width condition source) instruction.now program frame place g) result self.new.registers }
+        ensures { (program frame : List ℕ) →
+            Acts (Operation.Branch width condition source) instruction.now program frame place
+            self.old.registers result self.new.registers }
     {
         let x = self.read(instruction.destination);
         let y = self.operand(source, instruction);

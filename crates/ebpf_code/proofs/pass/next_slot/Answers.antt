@@ -1,5 +1,5 @@
 use Rattle.std.proofs.Common.{rules, arith, sym, ◌∙◌, subst, length, Some, None, true, false, ◌+◌, ◌<◌, ◌≡◌}
-use Rattle.ebpf_code.specs.declared.fault.Why.TheVariants.{Register, Beyond, NoExit, Field}
+use Rattle.ebpf_code.specs.declared.fault.CodeWhy.TheVariants.{Register, Beyond, NoExit, Field}
 use Rattle.ebpf_code.specs.Encoding.{encoding_at}
 use Rattle.ebpf_code.specs.Faults.{is_second, misuses_register, misuses_field, goes_beyond, lacks_exit}
 use Rattle.ebpf_code.specs.Sets.{read, kept_at}

@@ -1,14 +1,14 @@
-use Rattle.std.proofs.Common.{sym, subst}
+use Rattle.std.proofs.Common.{sym, subst, ap}
+use Rattle.ebpf_code.specs.Instruction.{is_wide}
 use Rattle.ebpf_run.specs.Meaning.{act}
 use Rattle.ebpf_run.specs.Machine.{Follows}
-use Rattle.ebpf_run.proofs.Good.{wide_second}
 use Rattle.ebpf_run.proofs.machine.Machine.act.Goals as goal
 
 pub load_immediate-requires-clause-within : goal.load_immediate-requires-clause-within
-load_immediate-requires-clause-within c = (wide_second c.args.program.now c.requires.sound c.args.place c.args.instruction.now c.requires.found c.in-LoadImmediate.is).0
+load_immediate-requires-clause-within c = (c.requires.sound.wide c.args.place c.args.instruction.now c.requires.found (ap is_wide c.in-LoadImmediate.is)).0
 
 pub load_immediate-requires-clause-second : goal.load_immediate-requires-clause-second
-load_immediate-requires-clause-second c = (wide_second c.args.program.now c.requires.sound c.args.place c.args.instruction.now c.requires.found c.in-LoadImmediate.is).1
+load_immediate-requires-clause-second c = (c.requires.sound.wide c.args.place c.args.instruction.now c.requires.found (ap is_wide c.in-LoadImmediate.is)).1
 
 pub returns-in-Calculate : goal.returns-in-Calculate
 returns-in-Calculate c = λ g holds.

@@ -2,11 +2,11 @@ use Rattle.std.proofs.Common.{rules, arith, sym, ap, ◌∙◌, subst, get_or, �
 use Rattle.ebpf_code.specs.declared.instruction.Slot.TheVariants.{Begins, HighHalf}
 use Rattle.ebpf_run.specs.Meaning.{step, act_at}
 use Rattle.ebpf_run.specs.Machine.{Follows}
-use Rattle.ebpf_run.proofs.Good.{few_slots, slot_begins, slot_is}
+use Rattle.ebpf_run.proofs.Good.{slot_begins, slot_is}
 use Rattle.ebpf_run.proofs.machine.Machine.step.Goals as goal
 
 pub act-requires-clause-few : goal.act-requires-clause-few
-act-requires-clause-few c = let few = few_slots c.args.program.now c.slots.ensures.sound in let within = c.requires.within in omega arith
+act-requires-clause-few c = let few = c.slots.ensures.runs.few in let within = c.requires.within in omega arith
 
 pub act-requires-clause-found : goal.act-requires-clause-found
 act-requires-clause-found c =
