@@ -1,12 +1,12 @@
 ghost use Rattle.std.specs.Prelude.{◌<◌, IfOk};
-ghost use Rattle.tap_flows.specs.Flows.{IsNotBefore};
+ghost use Rattle.tap_flows.specs.FlowList.{AreNotAfter};
 
 use crate::{CALLS, nanoseconds};
 use anyhow::Result;
 use std::alloc::{AllocError, Global};
 use std::rt::Clock;
 use std::time::Instant;
-use tap_flows::{Flows, Learnt};
+use tap_flows::{DEFAULT_AGE, DEFAULT_LIMIT, Flows, Learnt};
 
 /// The time of all calls, in milliseconds.
 const NOW: u64 = 1_000_000;
@@ -18,9 +18,9 @@ fn hash_of(number: u32) -> u32 {
 
 /// Flows of the first numbers.
 fn filled(alloc: Global, count: u32) -> Result<Flows, AllocError>
-    ensures { IfOk result (IsNotBefore NOW) }
+    ensures { IfOk result (λ flows. AreNotAfter NOW flows.flows) }
 {
-    let mut flows = Flows::new(alloc)?;
+    let mut flows = Flows::new(alloc, DEFAULT_LIMIT, DEFAULT_AGE)?;
     for number in 0..count {
         let _ = flows.learn(hash_of(number), 1, NOW);
     }
@@ -30,8 +30,8 @@ fn filled(alloc: Global, count: u32) -> Result<Flows, AllocError>
 /// Learns flows that are there, and answers how many were renewed.
 fn learn_all(flows: &mut Flows, count: u32) -> u32
     requires some { 0 < count }
-    requires latest { IsNotBefore NOW flows.old }
-    ensures { IsNotBefore NOW flows.new }
+    requires latest { AreNotAfter NOW flows.old.flows }
+    ensures { AreNotAfter NOW flows.new.flows }
 {
     let mut renewed: u32 = 0;
     for call in 0..CALLS {

@@ -1,11 +1,15 @@
--- Lemmas about the order of ends.
-use Rattle.std.proofs.Common.{◌≡◌, ℕ, List, [], ◌∷◌, ◌++◌, length, sym, ap, ◌∙◌, refl, arith}
+-- Lemmas about the order of ends, and about replies.
+use Rattle.std.proofs.Common.{◌≡◌, ℕ, ltb, false, cond, List, [], ◌∷◌, ◌++◌, length, sym, ap, ap₂, ◌∙◌, refl, arith}
+use Rattle.std.specs.Int.{w16, to_be_bytes}
+use Rattle.std.proofs.lemmas.Bool.{le-ltb}
 use Rattle.std.specs.Ordering.{nat_cmp, ordering_then, ordering_reverse, match_ordering}
 use Rattle.std.specs.declared.cmp.Ordering.{Ordering}
 use Rattle.std.specs.declared.cmp.Ordering.TheVariants.{Less, Equal, Greater}
 use Rattle.std.specs.Cmp.Lexicographic.{slice_cmp, nat_list_cmp_total}
 use Rattle.std.specs.FinMap.{slice_cmp-IsAntisymmetric, nat_cmp-IsAntisymmetric}
-use Rattle.tap_flow_key.specs.FlowKey.{in_order}
+use Rattle.tap_flow_key.specs.Fnv.{fnv_of}
+use Rattle.tap_flow_key.specs.FlowKey.{ether_type, layout_of, first_end, second_end, in_order, key_between, framed_key, key, nonzero, hash}
+use Rattle.tap_flow_key.specs.Reply.{IsReply}
 
 then_assoc : (a b c : Ordering) → ordering_then (ordering_then a b) c ≡ ordering_then a (ordering_then b c)
 then_assoc Less b c = refl
@@ -35,3 +39,20 @@ pub decided : (o p : Ordering) → (o ≡ Equal → ⊥) → o ≡ ordering_then
 decided Less p h = refl
 decided Equal p h = absurd (h refl)
 decided Greater p h = refl
+
+-- a reply has the same key
+framed_reply : (e f : List ℕ) → IsReply e f → framed_key f ≡ framed_key e
+framed_reply e f r =
+    let there : first_end f (layout_of f) ≡ second_end e (layout_of e) = ap₂ ◌++◌ r.source r.source_port in
+    let back : second_end f (layout_of f) ≡ first_end e (layout_of e) = ap₂ ◌++◌ r.destination r.destination_port in
+    ap₂ (λ kind protocol. key_between kind protocol (first_end f (layout_of f)) (second_end f (layout_of f))) r.kind r.protocol
+    ∙ ap₂ (key_between (ether_type e) (layout_of e).protocol) there back
+    ∙ ap (λ ends. to_be_bytes w16 (ether_type e) ++ (layout_of e).protocol ∷ ends) (in_order_comm (second_end e (layout_of e)) (first_end e (layout_of e)))
+
+-- and so the same hash
+pub hash-reply : (e f : List ℕ) → IsReply e f → hash f ≡ hash e
+unfolding key
+hash-reply e f r =
+    let long_e : ltb (length e) 14 ≡ false = le-ltb _ _ r.framed in
+    let long_f : ltb (length f) 14 ≡ false = le-ltb _ _ r.reply_framed in
+    ap (λ k. nonzero (fnv_of k)) (ap (λ b. cond b f (framed_key f)) long_f ∙ framed_reply e f r ∙ sym (ap (λ b. cond b e (framed_key e)) long_e))

@@ -1,4 +1,4 @@
 pub mod Fnv
 pub mod FlowKey
-pub mod Exchange
-pub mod Layouts
+pub mod Reply
+pub mod End

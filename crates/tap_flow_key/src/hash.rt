@@ -5,11 +5,11 @@ ghost use Rattle.std.specs.Ordering.{nat_cmp};
 ghost use Rattle.std.specs.Cmp.Lexicographic.{slice_cmp};
 ghost use Rattle.std.specs.Int.{w16, to_be_bytes};
 ghost use Rattle.tap_flow_key.specs.Fnv.{fnv_of};
-ghost use Rattle.tap_flow_key.specs.FlowKey.{first_end, second_end, port_at, key_between, framed_key, key, hash, layout_at};
-ghost use Rattle.tap_flow_key.specs.Layouts.{bytes_of};
+ghost use Rattle.tap_flow_key.specs.End.{bytes_of};
+ghost use Rattle.tap_flow_key.specs.FlowKey.{port_at, key_at, key_between, framed_key, key, hash};
 
 use crate::fnv1a::{OFFSET_BASIS, fnv, fnv_more};
-use crate::layout::{ETHER_HEADER, be16, find_layout, is_tagged};
+use crate::layout::{ETHER_HEADER, be16, is_tagged, layout_at};
 use std::cmp::Ordering;
 
 /// The bytes of the port of an end that has none.
@@ -59,18 +59,18 @@ fn framed_hash(bytes: &[u8]) -> u32
 fn hash_at(bytes: &[u8], kind: u16, at: usize) -> u32
     requires low { at ≤ 18 }
     requires header { 14 ≤ length bytes.now }
-    ensures { result ≡ fnv_of (key_between kind (layout_at bytes.now kind at).protocol (first_end bytes.now (layout_at bytes.now kind at)) (second_end bytes.now (layout_at bytes.now kind at))) }
+    ensures { result ≡ fnv_of (key_at bytes.now kind at) }
 {
-    let found = find_layout(bytes, kind, at);
+    let layout = layout_at(bytes, kind, at);
     let first = End {
-        address: &bytes[found.first..found.first + found.width],
-        port: port_bytes(bytes, found.ports, 0),
+        address: &bytes[layout.first..layout.first + layout.width],
+        port: port_bytes(bytes, layout.ports, 0),
     };
     let second = End {
-        address: &bytes[found.second..found.second + found.width],
-        port: port_bytes(bytes, found.ports, 2),
+        address: &bytes[layout.second..layout.second + layout.width],
+        port: port_bytes(bytes, layout.ports, 2),
     };
-    hash_ends(kind, found.protocol, first, second)
+    hash_ends(kind, layout.protocol, first, second)
 }
 
 /// The bytes of the port that stands `skip` bytes into the ports.

@@ -2,7 +2,6 @@
 
 ghost use Rattle.std.specs.Prelude.{◌≡◌, ◌+◌, ◌<◌, ◌≤◌, length, IfSome};
 ghost use Rattle.tap_flow_key.specs.FlowKey.{be16_at, is_tagged, is_ipv4, is_ipv6, has_ports, is_fragment, ipv4_layout, ipv6_layout, layout_at};
-ghost use Rattle.tap_flow_key.specs.Layouts.{layout};
 
 /// How many bytes an Ethernet header has.
 pub(crate) const ETHER_HEADER: usize = 14;
@@ -23,9 +22,10 @@ const PROTOCOL_UDP: u8 = 17;
 /// The bits of IPv4's fragment field that are 0 in a datagram that stands alone.
 const FRAGMENT: u16 = 0x3fff;
 
-/// Where the parts of the key stand in a frame.
+/// Where the parts of the key stand in a frame: the two addresses of so many bytes each, and the two
+/// ports, the first end's before the second's, if it shows them.
 #[derive(Clone, Copy)]
-pub(crate) struct Found {
+pub(crate) struct Layout {
     pub protocol: u8,
     pub first: usize,
     pub second: usize,
@@ -82,15 +82,15 @@ fn is_fragment(bytes: &[u8], at: usize) -> bool
     be16(bytes, at + 6) & FRAGMENT != 0
 }
 
-fn ipv4(bytes: &[u8], at: usize) -> Found
+fn ipv4(bytes: &[u8], at: usize) -> Layout
     requires low { at ≤ 18 }
     requires header { at + 20 ≤ length bytes.now }
-    ensures { layout result ≡ ipv4_layout bytes.now at }
+    ensures { result ≡ ipv4_layout bytes.now at }
 {
     let protocol = bytes[at + 9];
     let ports = at + 4 * usize::from(bytes[at] % 16);
     let shown = has_ports(protocol) && !is_fragment(bytes, at) && bytes.len() >= ports + 4;
-    Found {
+    Layout {
         protocol,
         first: at + 12,
         second: at + 16,
@@ -99,14 +99,14 @@ fn ipv4(bytes: &[u8], at: usize) -> Found
     }
 }
 
-fn ipv6(bytes: &[u8], at: usize) -> Found
+fn ipv6(bytes: &[u8], at: usize) -> Layout
     requires low { at ≤ 18 }
     requires header { at + 40 ≤ length bytes.now }
-    ensures { layout result ≡ ipv6_layout bytes.now at }
+    ensures { result ≡ ipv6_layout bytes.now at }
 {
     let protocol = bytes[at + 6];
     let shown = has_ports(protocol) && bytes.len() >= at + 44;
-    Found {
+    Layout {
         protocol,
         first: at + 8,
         second: at + 24,
@@ -116,10 +116,10 @@ fn ipv6(bytes: &[u8], at: usize) -> Found
 }
 
 /// Where the ends of a frame with this type and payload stand.
-pub(crate) fn find_layout(bytes: &[u8], kind: u16, at: usize) -> Found
+pub(crate) fn layout_at(bytes: &[u8], kind: u16, at: usize) -> Layout
     requires low { at ≤ 18 }
     requires header { 14 ≤ length bytes.now }
-    ensures layout { layout result ≡ layout_at bytes.now kind at }
+    ensures layout { result ≡ layout_at bytes.now kind at }
     ensures first_within { result.first + result.width ≤ length bytes.now }
     ensures second_within { result.second + result.width ≤ length bytes.now }
     ensures ports_within { IfSome result.ports (λ ports. ports + 4 ≤ length bytes.now) }
@@ -129,7 +129,7 @@ pub(crate) fn find_layout(bytes: &[u8], kind: u16, at: usize) -> Found
     } else if is_ipv6(bytes, kind, at) {
         ipv6(bytes, at)
     } else {
-        Found {
+        Layout {
             protocol: 0,
             first: 6,
             second: 0,

@@ -4,7 +4,7 @@
 //! the two ends. The hash is FNV-1a of the key's bytes, and never 0. The code takes the key's parts in
 //! order, without building it, so no call takes memory. Any bytes are a frame.
 //!
-//! Read `specs/FlowKey.antt` for the key, and `specs/Exchange.antt` for the frame on its way back.
+//! Read `specs/FlowKey.antt` for the key, and `specs/Reply.antt` for a frame on its way back.
 #![tactic(auto)]
 
 mod fnv1a;
@@ -16,4 +16,4 @@ mod tests;
 
 pub use fnv1a::fnv;
 pub use hash::flow_hash;
-pub use laws::{equal_keys_have_one_hash, exchanged_ends_have_one_hash};
+pub use laws::replies_have_one_hash;

@@ -8,6 +8,12 @@ const IPV4: [u8; 38] = [
     0, 0, 2, 10, 0, 0, 1, 0x12, 0x34, 0x00, 0x50,
 ];
 
+// On its way back, with options and another time to live.
+const REPLY: [u8; 43] = [
+    2, 0, 0, 0, 0, 2, 2, 0, 0, 0, 0, 1, 0x08, 0x00, 0x46, 0, 0, 29, 0, 7, 0x40, 0, 55, 17, 3, 9,
+    10, 0, 0, 1, 10, 0, 0, 2, 1, 1, 1, 0, 0x00, 0x50, 0x12, 0x34, 99,
+];
+
 const IPV6: [u8; 58] = [
     2, 0, 0, 0, 0, 1, 2, 0, 0, 0, 0, 2, 0x86, 0xdd, 0x60, 0, 0, 0, 0, 4, 6, 64, 0xfe, 0x80, 0, 0,
     0, 0, 0, 0, 0, 0, 0, 0, 0, 0, 0, 1, 0xfe, 0x80, 0, 0, 0, 0, 0, 0, 0, 0, 0, 0, 0, 0, 0, 2, 0x12,
@@ -98,6 +104,7 @@ fn keys_by_station(rt: HostRuntime) {
 #[test]
 fn keys_by_ipv4(rt: HostRuntime) {
     has_key(&rt, &IPV4, &UDP);
+    has_key(&rt, &REPLY, &UDP);
     has_key(&rt, &IPV4[..37], &UDP_NO_PORTS);
     has_key(&rt, &IPV4[..34], &UDP_NO_PORTS);
     has_key(&rt, &TAGGED, &TCP);

@@ -1,30 +1,31 @@
 -- Lemmas about lists by age.
 use Rattle.std.proofs.Common.{◌≡◌, ℕ, ◌<◌, ◌≤◌, List, [], ◌∷◌, ◌++◌, subst, arith}
 use Rattle.tap_flows.specs.Rings.{times}
-use Rattle.tap_flows.specs.Nodes.{Each, IsRising}
+use Rattle.std.specs.List.{AllByRecursion}
+use Rattle.tap_flows.specs.Nodes.{IsRising}
 use Rattle.tap_flows.proofs.RingLemmas.{times_head, times_split}
 
 -- what holds of each that stands in a list
-pub each_from : (P : ℕ → Type 0) (xs : List ℕ) → ((k : ℕ) → 0 < times k xs → P k) → Each P xs
+pub each_from : (P : ℕ → Type 0) (xs : List ℕ) → ((k : ℕ) → 0 < times k xs → P k) → AllByRecursion P xs
 each_from P [] h = tt
 each_from P (x ∷ xs) h = (h x (omega (arith, times_head x xs)), each_from P xs (λ k some. h k (omega arith)))
 
-pub each_append_left : (P : ℕ → Type 0) (xs ys : List ℕ) → Each P (xs ++ ys) → Each P xs
+pub each_append_left : (P : ℕ → Type 0) (xs ys : List ℕ) → AllByRecursion P (xs ++ ys) → AllByRecursion P xs
 each_append_left P [] ys h = tt
 each_append_left P (x ∷ xs) ys h = (h.0, each_append_left P xs ys h.1)
 
-pub each_append_right : (P : ℕ → Type 0) (xs ys : List ℕ) → Each P (xs ++ ys) → Each P ys
+pub each_append_right : (P : ℕ → Type 0) (xs ys : List ℕ) → AllByRecursion P (xs ++ ys) → AllByRecursion P ys
 each_append_right P [] ys h = h
 each_append_right P (x ∷ xs) ys h = each_append_right P xs ys h.1
 
-pub each_append : (P : ℕ → Type 0) (xs ys : List ℕ) → Each P xs → Each P ys → Each P (xs ++ ys)
+pub each_append : (P : ℕ → Type 0) (xs ys : List ℕ) → AllByRecursion P xs → AllByRecursion P ys → AllByRecursion P (xs ++ ys)
 each_append P [] ys h k = k
 each_append P (x ∷ xs) ys h k = (h.0, each_append P xs ys h.1 k)
 
-pub each_at : (P : ℕ → Type 0) (xs : List ℕ) (n : ℕ) → 0 < times n xs → Each P xs → P n
+pub each_at : (P : ℕ → Type 0) (xs : List ℕ) (n : ℕ) → 0 < times n xs → AllByRecursion P xs → P n
 each_at P xs n some h =
     let parts = times_split n xs some in
-    (each_append_right P parts.0 (n ∷ parts.1) (subst (Each P) parts.2 h)).0
+    (each_append_right P parts.0 (n ∷ parts.1) (subst (AllByRecursion P) parts.2 h)).0
 
 -- times that never fall still don't without one
 pub rising_without : (f : ℕ → ℕ) (xs : List ℕ) (n : ℕ) (ys : List ℕ) → IsRising f (xs ++ n ∷ ys) → IsRising f (xs ++ ys)

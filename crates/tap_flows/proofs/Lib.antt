@@ -3,6 +3,7 @@ pub mod NodeLemmas
 pub mod AgeLemmas
 pub mod TableLemmas
 pub mod PassLemmas
+pub mod ListLemmas
 pub mod WalkLemmas
 pub mod TickStep
 pub mod FlowLemmas

@@ -5,15 +5,17 @@ use Rattle.tap_flows.specs.Nodes.{contents, Sound, IsWalked}
 use Rattle.tap_flows.specs.declared.table.Table.{Table}
 
 -- what was removed was too old, and as many steps are left as flows
-pub record IsTicking (before table : Table) (now sum end : ℕ) : Type 0 where
+pub record IsTicking (before table : Table) (age now sum end : ℕ) : Type 0 where
   pub sound : Sound table
-  pub same : ticked (contents table.nodes.items) now ≡ ticked (contents before.nodes.items) now
+  pub limit : table.limit ≡ before.limit
+  pub same : ticked (contents table.nodes.items) age now ≡ ticked (contents before.nodes.items) age now
   pub counted : sum ≡ end
 
 -- what was removed was of the queue, and as many steps are left as nodes by age
 pub record IsForgetting (before table : Table) (index node step end : ℕ) : Type 0 where
   pub left : List ℕ
   pub walk : IsWalked table index left
-  pub here : node ≡ get_or left 0 4096
+  pub limit : table.limit ≡ before.limit
+  pub here : node ≡ get_or left 0 table.limit.nodes
   pub same : forgotten (contents table.nodes.items) index ≡ forgotten (contents before.nodes.items) index
   pub counted : length left + step ≡ end

@@ -1,4 +1,5 @@
--- This project's own, after the flow table of a Linux tun device: what each call does to the flows.
+-- This project's own, after the flow table of a Linux tun device: the flows of a device as a finite map from
+-- hashes, and what each call does to it.
 use Rattle.std.specs.Prelude.{ℕ, ◌+◌, ◌≤◌, ◌==◌, nat_lt, not, if◌then◌else◌, Bool, false, Option, IfSome}
 use Rattle.std.specs.Option.{option_map_or, option_map}
 use Rattle.std.specs.FinMap.{get, contains_key, insert, len, retain_keys}
@@ -10,19 +11,25 @@ use Rattle.tap_flows.specs.declared.flows.Learnt.TheVariants.{Made, Renewed, Ful
 abbrev pub IsNotBefore : ℕ → FlowMap → Type 0
 IsNotBefore now flows = (hash : ℕ) → IfSome (get flows hash) (λ flow. flow.updated ≤ now)
 
--- a flow that is there is renewed; a new one is made while there are fewer than 4,096
-abbrev pub learnt : FlowMap → ℕ → Learnt
-learnt flows hash = if contains_key flows hash then Renewed else (if len flows == 4096 then Full else Made)
+-- the queue of a hash's flow, if it is there
+abbrev pub found : FlowMap → ℕ → Option ℕ
+found flows hash = option_map (λ flow. flow.index) (get flows hash)
 
--- the flows afterwards
-abbrev pub with_learnt : Learnt → FlowMap → ℕ → Flow → FlowMap
-with_learnt Made flows hash flow = insert flows hash flow
-with_learnt Renewed flows hash flow = insert flows hash flow
-with_learnt Full flows hash flow = flows
+-- what learning a hash does: its flow is renewed if it is there, and else made while there are fewer than
+-- the limit
+abbrev pub learn_outcome : FlowMap → ℕ → ℕ → Learnt
+learn_outcome flows limit hash =
+    if contains_key flows hash then Renewed else (if len flows == limit then Full else Made)
 
--- the index of a hash's flow, if it is there
-abbrev pub index_of : FlowMap → ℕ → Option ℕ
-index_of flows hash = option_map (λ flow. flow.index) (get flows hash)
+-- the flows with this one, where an outcome puts it in
+abbrev pub put_in : Learnt → FlowMap → ℕ → Flow → FlowMap
+put_in Made flows hash flow = insert flows hash flow
+put_in Renewed flows hash flow = insert flows hash flow
+put_in Full flows hash flow = flows
+
+-- the flows once this one was learnt
+abbrev pub learnt : FlowMap → ℕ → ℕ → Flow → FlowMap
+learnt flows limit hash flow = put_in (learn_outcome flows limit hash) flows hash flow
 
 -- the flows that pass a test
 abbrev pub passing : (Flow → Bool) → FlowMap → FlowMap
@@ -32,6 +39,6 @@ passing test flows = retain_keys flows (λ hash. option_map_or test (get flows h
 abbrev pub forgotten : FlowMap → ℕ → FlowMap
 forgotten flows index = passing (λ flow. not (flow.index == index)) flows
 
--- those that were updated less than 3,000 milliseconds ago
-abbrev pub ticked : FlowMap → ℕ → FlowMap
-ticked flows now = passing (λ flow. nat_lt now (flow.updated + 3000)) flows
+-- those that were updated less than the age ago
+abbrev pub ticked : FlowMap → ℕ → ℕ → FlowMap
+ticked flows age now = passing (λ flow. nat_lt now (flow.updated + age)) flows

@@ -5,7 +5,8 @@ use Rattle.std.specs.Prelude.{◌≡◌, ◌==◌, ℕ, ◌+◌, ◌<◌, ◌≤
 -- from a place to another, with these between them, each names the next, and is named as its previous
 abbrev pub AreLinked : List ℕ → List ℕ → ℕ → List ℕ → ℕ → Type 0
 AreLinked next previous from [] to = (slice_index next from ≡ to) × (slice_index previous to ≡ from)
-AreLinked next previous from (node ∷ nodes) to = (slice_index next from ≡ node) × (slice_index previous node ≡ from) × AreLinked next previous node nodes to
+AreLinked next previous from (node ∷ nodes) to =
+    (slice_index next from ≡ node) × (slice_index previous node ≡ from) × AreLinked next previous node nodes to
 
 -- how many times a node stands in a list
 abbrev pub times : ℕ → List ℕ → ℕ
@@ -18,8 +19,10 @@ pub record AreRings (next previous : List ℕ) (nodes heads : ℕ) (chain : ℕ 
   pub next_sized : length next ≡ nodes + heads
   pub previous_sized : length previous ≡ nodes + heads
   pub ring : (head : ℕ) → nodes ≤ head → head < nodes + heads → AreLinked next previous head (chain head) head
-  pub inside : (head node : ℕ) → nodes ≤ head → head < nodes + heads → 0 < times node (chain head) → (node < nodes) × (home node ≡ head)
-  pub once : (head node : ℕ) → nodes ≤ head → head < nodes + heads → node < nodes → home node ≡ head → times node (chain head) ≡ 1
+  pub inside : (head node : ℕ) → nodes ≤ head → head < nodes + heads
+      → 0 < times node (chain head) → (node < nodes) × (home node ≡ head)
+  pub once : (head node : ℕ) → nodes ≤ head → head < nodes + heads
+      → node < nodes → home node ≡ head → times node (chain head) ≡ 1
 
 -- the chains with another one behind this head
 abbrev pub with_chain : ℕ → List ℕ → (ℕ → List ℕ) → ℕ → List ℕ
@@ -41,10 +44,12 @@ linked_previous next previous node head = slice_set (slice_set previous node (sl
 
 -- both, one after the other
 abbrev pub moved_next : List ℕ → List ℕ → ℕ → ℕ → List ℕ
-moved_next next previous node head = linked_next (unlinked_next next previous node) (unlinked_previous next previous node) node head
+moved_next next previous node head =
+    linked_next (unlinked_next next previous node) (unlinked_previous next previous node) node head
 
 abbrev pub moved_previous : List ℕ → List ℕ → ℕ → ℕ → List ℕ
-moved_previous next previous node head = linked_previous (unlinked_next next previous node) (unlinked_previous next previous node) node head
+moved_previous next previous node head =
+    linked_previous (unlinked_next next previous node) (unlinked_previous next previous node) node head
 
 -- each place is alone: it names itself
 abbrev pub AreAlone : List ℕ → ℕ → Type 0

@@ -1,12 +1,19 @@
-ghost use Rattle.std.specs.Prelude.{◌≡◌, ℕ, ◌≤◌, ◌↔◌, IsTrue, IfOk};
-ghost use Rattle.std.specs.FinMap as map;
+//! The flows of a device, as callers see them.
 
-use crate::table::{Entry, NODES, Table};
+ghost use Rattle.std.specs.Prelude.{◌≡◌, ℕ, ◌<◌, ◌≤◌, ◌↔◌, [], length, IsTrue, IfOk};
+
+use crate::heads::{Limit, MAX_LIMIT};
+use crate::table::{Entry, Table};
 use std::alloc::{AllocError, Global};
 use std::marker::Model;
 
-/// How many flows a device keeps at most.
-pub const MAX_FLOWS: usize = NODES as usize;
+/// After how many milliseconds a flow goes at the latest.
+pub const MAX_AGE: u64 = 1_000_000_000;
+
+/// How many flows a device keeps where nothing else is said, and for how many milliseconds.
+pub const DEFAULT_LIMIT: u32 = 4096;
+
+pub const DEFAULT_AGE: u64 = 3000;
 
 /// What learning a flow did.
 #[derive(Clone, Copy, Debug, PartialEq, Eq)]
@@ -25,60 +32,65 @@ pub enum Learnt {
 #[derive(Drop)]
 pub struct Flows {
     table: Table,
+    age: u64,
 }
 
-// Clauses see a finite map from hashes to flows.
+// Clauses see the limit, the age, and the flows in the order of their hashes.
 impl Model for Flows {
-    ghost use Rattle.std.specs.Ordering.{nat_cmp};
-    ghost use Rattle.std.specs.FinMap as map;
-    ghost use Rattle.std.specs.Coded.{coded_ℕ};
-    ghost use Rattle.tap_flows.specs.Flow.{Flow, coded_flow};
+    ghost use Rattle.tap_flows.specs.Flow.{FlowTable, coded_table};
 
-    ghost Value = { map.FinMap nat_cmp Flow };
+    ghost Value = { FlowTable };
 
-    ghost coded = { map.code coded_ℕ coded_flow };
+    ghost coded = { coded_table };
 
-    ghost use Rattle.tap_flows.specs.Nodes.{contents, Sound};
+    ghost use Rattle.tap_flows.specs.Nodes.{listed_in, Sound};
 
-    ghost view = { λ f. contents f.table.nodes.items };
+    ghost view = { λ f. record { limit = f.table.limit.nodes; age = f.age; flows = listed_in f.table } };
 
     ghost invariant = { λ f. Sound f.table };
 }
 
 impl Flows {
-    ghost use Rattle.tap_flows.specs.Flows.{IsNotBefore, learnt, with_learnt, index_of, forgotten, ticked};
+    ghost use Rattle.tap_flows.specs.Flow.{Flow};
+    ghost use Rattle.tap_flows.specs.FlowList.{AreInOrder, AreNotAfter, found, learn_outcome, learnt, forgotten, ticked};
 
-    /// No flows, with memory for all that may come.
-    pub fn new(alloc: Global) -> Result<Flows, AllocError>
-        ensures empty { IfOk result (λ flows. flows ≡ map.empty) }
-        ensures latest { IfOk result (λ flows. (now : ℕ) → IsNotBefore now flows) }
+    /// No flows, with memory for all that may come: at most `limit`, each for `age` milliseconds.
+    pub fn new(alloc: Global, limit: u32, age: u64) -> Result<Flows, AllocError>
+        requires some { 0 < limit }
+        requires few { limit ≤ MAX_LIMIT }
+        requires old { 0 < age }
+        requires young { age ≤ MAX_AGE }
+        ensures empty { IfOk result (λ flows. flows ≡ record { limit = limit; age = age; flows = [] }) }
     {
         Ok(Flows {
-            table: Table::new(alloc)?,
+            table: Table::new(alloc, Limit { nodes: limit })?,
+            age,
         })
     }
 
     /// How many flows there are.
     pub fn len(&self) -> usize
-        ensures len { result ≡ map.len self.now }
-        ensures few { result ≤ MAX_FLOWS }
+        ensures len { result ≡ length self.now.flows }
+        ensures few { result ≤ self.now.limit }
+        ensures in_order { AreInOrder self.now.flows }
     {
-        self.table.len
+        self.table.len as usize
     }
 
     /// Whether there are no flows.
     pub fn is_empty(&self) -> bool
-        ensures { IsTrue result ↔ (self.now ≡ map.empty) }
+        ensures { IsTrue result ↔ (self.now.flows ≡ []) }
     {
         self.table.len == 0
     }
 
     /// Keeps a flow's queue and time, in milliseconds. Takes no memory.
     pub fn learn(&mut self, hash: u32, index: u16, now: u64) -> Learnt
-        requires latest { IsNotBefore now self.old }
-        ensures learnt { result ≡ learnt self.old hash }
-        ensures flows { self.new ≡ with_learnt result self.old hash (record { index = index; updated = now }) }
-        ensures latest { IsNotBefore now self.new }
+        requires latest { AreNotAfter now self.old.flows }
+        ensures learnt { result ≡ learn_outcome self.old.flows self.old.limit hash }
+        ensures flows { let flow : Flow = record { index = index; updated = now }
+            in self.new ≡ record self.old { flows = learnt self.old.flows self.old.limit hash flow } }
+        ensures latest { AreNotAfter now self.new.flows }
     {
         let entry = Entry {
             hash,
@@ -89,7 +101,7 @@ impl Flows {
             self.table.renew(node, entry);
             return Learnt::Renewed;
         }
-        if self.table.len == MAX_FLOWS {
+        if self.table.len == self.table.limit.nodes {
             return Learnt::Full;
         }
         self.table.insert(entry);
@@ -98,27 +110,25 @@ impl Flows {
 
     /// The queue of a hash's flow. None exactly where the flow is not there.
     pub fn find(&self, hash: u32) -> Option<u16>
-        ensures { result ≡ index_of self.now hash }
+        ensures { result ≡ found self.now.flows hash }
     {
-        match self.table.find(hash) {
-            Some(node) => self.table.index_at(node),
-            None => None,
-        }
+        let node = self.table.find(hash)?;
+        self.table.index_at(node)
     }
 
     /// Removes the flows of a queue.
     pub fn forget(&mut self, index: u16)
-        ensures flows { self.new ≡ forgotten self.old index }
-        ensures latest { (time : ℕ) → IsNotBefore time self.old → IsNotBefore time self.new }
+        ensures flows { self.new ≡ record self.old { flows = forgotten self.old.flows index } }
+        ensures latest { (time : ℕ) → AreNotAfter time self.old.flows → AreNotAfter time self.new.flows }
     {
         self.table.forget(index);
     }
 
-    /// Removes the flows that were updated 3,000 milliseconds before `now` or earlier.
+    /// Removes the flows that were updated as many milliseconds before `now` as the age, or earlier.
     pub fn tick(&mut self, now: u64)
-        ensures flows { self.new ≡ ticked self.old now }
-        ensures latest { (time : ℕ) → IsNotBefore time self.old → IsNotBefore time self.new }
+        ensures flows { self.new ≡ record self.old { flows = ticked self.old.flows self.old.age now } }
+        ensures latest { (time : ℕ) → AreNotAfter time self.old.flows → AreNotAfter time self.new.flows }
     {
-        self.table.tick(now);
+        self.table.tick(self.age, now);
     }
 }

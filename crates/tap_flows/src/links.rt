@@ -8,14 +8,14 @@ use std::alloc::{AllocError, Global};
 /// The number of a place: of a node, or of the head of a ring.
 #[derive(Clone, Copy, Debug, PartialEq, Eq)]
 pub(crate) struct Place {
-    pub number: u16,
+    pub number: u32,
 }
 
 /// At each place the number of the next one in its ring, and of the previous one.
 #[derive(Drop)]
 pub(crate) struct Links {
-    pub next: Vec<u16>,
-    pub previous: Vec<u16>,
+    pub next: Vec<u32>,
+    pub previous: Vec<u32>,
     pub ghost sized: { vec_len previous ≡ vec_len next },
     pub ghost next_within: { All (λ k. k < vec_len next) next.items },
     pub ghost previous_within: { All (λ k. k < vec_len next) previous.items },
@@ -23,7 +23,7 @@ pub(crate) struct Links {
 
 impl Links {
     /// Places that are all alone.
-    pub fn new(alloc: Global, places: u16) -> Result<Links, AllocError>
+    pub fn new(alloc: Global, places: u32) -> Result<Links, AllocError>
         ensures next { IfOk result (λ links. AreAlone links.next.items places) }
         ensures previous { IfOk result (λ links. AreAlone links.previous.items places) }
     {
@@ -40,7 +40,7 @@ impl Links {
         ensures within { result.number < vec_len self.now.next }
     {
         Place {
-            number: self.next[usize::from(place.number)],
+            number: self.next[place.number as usize],
         }
     }
 
@@ -48,34 +48,39 @@ impl Links {
     pub fn unlink(&mut self, node: Place)
         requires { node.number < vec_len self.old.next }
         ensures next { self.new.next.items ≡ unlinked_next self.old.next.items self.old.previous.items node.number }
-        ensures previous { self.new.previous.items ≡ unlinked_previous self.old.next.items self.old.previous.items node.number }
+        ensures previous { self.new.previous.items
+            ≡ unlinked_previous self.old.next.items self.old.previous.items node.number }
     {
-        let after = self.next[usize::from(node.number)];
-        let before = self.previous[usize::from(node.number)];
-        self.next[usize::from(before)] = after;
-        self.previous[usize::from(after)] = before;
+        let after = self.next[node.number as usize];
+        let before = self.previous[node.number as usize];
+        self.next[before as usize] = after;
+        self.previous[after as usize] = before;
     }
 
     /// Puts a node at the end of a ring.
     pub fn link(&mut self, node: Place, head: Place)
         requires node { node.number < vec_len self.old.next }
         requires head { head.number < vec_len self.old.next }
-        ensures next { self.new.next.items ≡ linked_next self.old.next.items self.old.previous.items node.number head.number }
-        ensures previous { self.new.previous.items ≡ linked_previous self.old.next.items self.old.previous.items node.number head.number }
+        ensures next { self.new.next.items
+            ≡ linked_next self.old.next.items self.old.previous.items node.number head.number }
+        ensures previous { self.new.previous.items
+            ≡ linked_previous self.old.next.items self.old.previous.items node.number head.number }
     {
-        let last = self.previous[usize::from(head.number)];
-        self.next[usize::from(last)] = node.number;
-        self.previous[usize::from(node.number)] = last;
-        self.next[usize::from(node.number)] = head.number;
-        self.previous[usize::from(head.number)] = node.number;
+        let last = self.previous[head.number as usize];
+        self.next[last as usize] = node.number;
+        self.previous[node.number as usize] = last;
+        self.next[node.number as usize] = head.number;
+        self.previous[head.number as usize] = node.number;
     }
 
     /// Takes a node out of its ring and puts it at the end of one.
     pub fn move_to(&mut self, node: Place, head: Place)
         requires node { node.number < vec_len self.old.next }
         requires head { head.number < vec_len self.old.next }
-        ensures next { self.new.next.items ≡ moved_next self.old.next.items self.old.previous.items node.number head.number }
-        ensures previous { self.new.previous.items ≡ moved_previous self.old.next.items self.old.previous.items node.number head.number }
+        ensures next { self.new.next.items
+            ≡ moved_next self.old.next.items self.old.previous.items node.number head.number }
+        ensures previous { self.new.previous.items
+            ≡ moved_previous self.old.next.items self.old.previous.items node.number head.number }
     {
         self.unlink(node);
         self.link(node, head);
@@ -83,11 +88,11 @@ impl Links {
 }
 
 /// The numbers from 0 up to `places`, in order.
-fn own_numbers(alloc: Global, places: u16) -> Result<Vec<u16>, AllocError>
+fn own_numbers(alloc: Global, places: u32) -> Result<Vec<u32>, AllocError>
     ensures alone { IfOk result (λ links. AreAlone links.items places) }
     ensures within { IfOk result (λ links. All (λ k. k < places) links.items) }
 {
-    let mut links = Vec::with_capacity(alloc, usize::from(places))?;
+    let mut links = Vec::with_capacity(alloc, places as usize)?;
     for place in 0..places {
         links.push(place)?;
     }

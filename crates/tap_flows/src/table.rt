@@ -1,35 +1,15 @@
 //! The nodes that keep the flows.
 
-ghost use Rattle.std.specs.Prelude.{◌≡◌, ℕ, ◌+◌, ◌<◌, ◌↔◌, List, ◌∷◌, ◌++◌, vec_len, slice_set, None, IfOk, IfSome, IfNone, IsTrue};
+ghost use Rattle.std.specs.Prelude.{◌≡◌, ℕ, ◌+◌, ◌<◌, ◌≤◌, ◌↔◌, List, ◌∷◌, ◌++◌, vec_len, slice_index, slice_set, None, IfOk, IfSome, IfNone, IsTrue};
 ghost use Rattle.std.specs.Option.{option_map};
 ghost use Rattle.std.specs.FinMap as map;
 ghost use Rattle.tap_flows.specs.Flows.{IsNotBefore, forgotten, ticked};
-ghost use Rattle.tap_flows.specs.Nodes.{contents, kept_at, bucket_of, flow_of, IsSound, Sound, HasAged, KeepsHash, KeepsIndex, KeepsStale, IsWalked, AreNone, AreFree};
+ghost use Rattle.tap_flows.specs.Heads.{free_head};
+ghost use Rattle.tap_flows.specs.Nodes.{contents, kept_at, flow_of, IsSound, Sound, HasAged, KeepsHash, KeepsIndex, KeepsStale, IsWalked, AreNone, AreFree};
 
+use crate::heads::{CHAIN_HEADS, Limit};
 use crate::links::{Links, Place};
 use std::alloc::{AllocError, Global};
-
-/// How many nodes there are, and so how many flows at most.
-pub(crate) const NODES: u16 = 4096;
-
-/// How many buckets there are.
-const BUCKETS: u16 = 1024;
-
-/// How old a flow gets, in milliseconds.
-const AGE: u64 = 3000;
-
-/// The head of the ring of free nodes. Those of the buckets stand before it.
-const FREE: Place = Place {
-    number: NODES + BUCKETS,
-};
-
-/// The head of the ring by age.
-const AGES: Place = Place { number: NODES };
-
-/// How many places there are in the rings by bucket, and in the ring by age.
-const CHAIN_PLACES: u16 = NODES + BUCKETS + 1;
-
-const AGE_PLACES: u16 = NODES + 1;
 
 /// A flow under its hash.
 #[derive(Clone, Copy, Debug)]
@@ -43,22 +23,25 @@ pub(crate) struct Entry {
 /// by age, the oldest first.
 #[derive(Drop)]
 pub(crate) struct Table {
+    pub limit: Limit,
     pub nodes: Vec<Option<Entry>>,
     pub chains: Links,
     pub ages: Links,
-    pub len: usize,
+    pub len: u32,
 }
 
 impl Table {
     /// Nodes that are all free.
-    pub fn new(alloc: Global) -> Result<Table, AllocError>
+    pub fn new(alloc: Global, limit: Limit) -> Result<Table, AllocError>
         ensures sound { IfOk result Sound }
+        ensures limit { IfOk result (λ table. table.limit ≡ limit) }
         ensures empty { IfOk result (λ table. contents table.nodes.items ≡ map.empty) }
     {
         Ok(Table {
-            nodes: free_nodes(alloc)?,
-            chains: free_chain(alloc)?,
-            ages: Links::new(alloc, AGE_PLACES)?,
+            limit,
+            nodes: free_nodes(alloc, limit)?,
+            chains: free_chain(alloc, limit)?,
+            ages: Links::new(alloc, limit.nodes + 1)?,
             len: 0,
         })
     }
@@ -69,9 +52,9 @@ impl Table {
         ensures found { IfSome result (λ place. KeepsHash self.now.nodes.items hash place.number) }
         ensures absent { IfNone result (map.get (contents self.now.nodes.items) hash ≡ None) }
     {
-        let head = bucket_of(hash);
+        let head = self.limit.bucket(hash);
         let mut place = self.chains.next(head);
-        for step in 0..NODES {
+        for _ in 0..self.limit.nodes {
             if place == head {
                 return None;
             }
@@ -88,10 +71,7 @@ impl Table {
         requires { node.number < vec_len self.now.nodes }
         ensures { IsTrue result ↔ KeepsHash self.now.nodes.items hash node.number }
     {
-        match self.nodes[usize::from(node.number)] {
-            Some(entry) => entry.hash == hash,
-            None => false,
-        }
+        self.nodes[node.number as usize].is_some_and(|entry| entry.hash == hash)
     }
 
     /// Whether it keeps one of a queue.
@@ -99,21 +79,15 @@ impl Table {
         requires { node.number < vec_len self.now.nodes }
         ensures { IsTrue result ↔ KeepsIndex self.now.nodes.items index node.number }
     {
-        match self.nodes[usize::from(node.number)] {
-            Some(entry) => entry.index == index,
-            None => false,
-        }
+        self.nodes[node.number as usize].is_some_and(|entry| entry.index == index)
     }
 
-    /// Whether it keeps one that is too old.
-    fn keeps_stale(&self, node: Place, now: u64) -> bool
+    /// Whether it keeps one that is so old.
+    fn keeps_stale(&self, node: Place, age: u64, now: u64) -> bool
         requires { node.number < vec_len self.now.nodes }
-        ensures { IsTrue result ↔ KeepsStale self.now.nodes.items now node.number }
+        ensures { IsTrue result ↔ KeepsStale self.now.nodes.items age now node.number }
     {
-        match self.nodes[usize::from(node.number)] {
-            Some(entry) => now.saturating_sub(entry.updated) >= AGE,
-            None => false,
-        }
+        self.nodes[node.number as usize].is_some_and(|entry| is_stale(entry.updated, age, now))
     }
 
     /// The queue of a node's flow.
@@ -121,25 +95,40 @@ impl Table {
         requires { node.number < vec_len self.now.nodes }
         ensures { result ≡ option_map (λ entry. entry.index) (kept_at self.now.nodes.items node.number) }
     {
-        match self.nodes[usize::from(node.number)] {
-            Some(entry) => Some(entry.index),
-            None => None,
-        }
+        self.nodes[node.number as usize].map(|entry| entry.index)
+    }
+
+    /// The first by age, or the head where there is none.
+    pub fn oldest(&self) -> Place
+        requires { self.now.limit.nodes < vec_len self.now.ages.next }
+        ensures { result.number ≡ slice_index self.now.ages.next.items self.now.limit.nodes }
+    {
+        self.ages.next(self.limit.ages())
+    }
+
+    /// The first of the free nodes, or the head where there is none.
+    fn first_free(&self) -> Place
+        requires { free_head self.now.limit.nodes < vec_len self.now.chains.next }
+        ensures { result.number ≡ slice_index self.now.chains.next.items (free_head self.now.limit.nodes) }
+    {
+        self.chains.next(self.limit.free())
     }
 
     /// Puts a new flow into a free node.
     pub fn insert(&mut self, entry: Entry)
         requires sound { Sound self.old }
-        requires room { self.old.len < NODES }
+        requires room { self.old.len < self.old.limit.nodes }
         requires absent { map.get (contents self.old.nodes.items) entry.hash ≡ None }
         requires latest { IsNotBefore entry.updated (contents self.old.nodes.items) }
         ensures sound { Sound self.new }
-        ensures contents { contents self.new.nodes.items ≡ map.insert (contents self.old.nodes.items) entry.hash (flow_of entry) }
+        ensures limit { self.new.limit ≡ self.old.limit }
+        ensures contents { contents self.new.nodes.items
+            ≡ map.insert (contents self.old.nodes.items) entry.hash (flow_of entry) }
     {
-        let node = self.chains.next(FREE);
-        self.chains.move_to(node, bucket_of(entry.hash));
-        self.ages.link(node, AGES);
-        self.nodes[usize::from(node.number)] = Some(entry);
+        let node = self.first_free();
+        self.chains.move_to(node, self.limit.bucket(entry.hash));
+        self.ages.link(node, self.limit.ages());
+        self.nodes[node.number as usize] = Some(entry);
         self.len += 1;
     }
 
@@ -149,22 +138,26 @@ impl Table {
         requires kept { KeepsHash self.old.nodes.items entry.hash node.number }
         requires latest { IsNotBefore entry.updated (contents self.old.nodes.items) }
         ensures sound { Sound self.new }
-        ensures contents { contents self.new.nodes.items ≡ map.insert (contents self.old.nodes.items) entry.hash (flow_of entry) }
+        ensures limit { self.new.limit ≡ self.old.limit }
+        ensures contents { contents self.new.nodes.items
+            ≡ map.insert (contents self.old.nodes.items) entry.hash (flow_of entry) }
     {
-        self.ages.move_to(node, AGES);
-        self.nodes[usize::from(node.number)] = Some(entry);
+        self.ages.move_to(node, self.limit.ages());
+        self.nodes[node.number as usize] = Some(entry);
     }
 
     /// Takes the flow from a node, which is free from then on.
     pub fn remove(&mut self, node: Place)
         requires aged { HasAged self.old node.number }
-        ensures sound { (before behind : List ℕ) → IsSound self.old (before ++ node.number ∷ behind) → IsSound self.new (before ++ behind) }
+        ensures sound { (before behind : List ℕ)
+            → IsSound self.old (before ++ node.number ∷ behind) → IsSound self.new (before ++ behind) }
+        ensures limit { self.new.limit ≡ self.old.limit }
         ensures nodes { self.new.nodes.items ≡ slice_set self.old.nodes.items node.number None }
         ensures len { self.new.len + 1 ≡ self.old.len }
     {
         self.ages.unlink(node);
-        self.chains.move_to(node, FREE);
-        self.nodes[usize::from(node.number)] = None;
+        self.chains.move_to(node, self.limit.free());
+        self.nodes[node.number as usize] = None;
         self.len -= 1;
     }
 
@@ -172,10 +165,11 @@ impl Table {
     pub fn forget(&mut self, index: u16)
         requires { Sound self.old }
         ensures sound { Sound self.new }
+        ensures limit { self.new.limit ≡ self.old.limit }
         ensures contents { contents self.new.nodes.items ≡ forgotten (contents self.old.nodes.items) index }
     {
-        let mut node = self.ages.next(AGES);
-        for walked in 0..self.len {
+        let mut node = self.oldest();
+        for _ in 0..self.len {
             let after = self.ages.next(node);
             self.remove_of(index, node);
             node = after;
@@ -186,22 +180,25 @@ impl Table {
     fn remove_of(&mut self, index: u16, node: Place)
         requires aged { HasAged self.old node.number }
         ensures walk { (left : List ℕ) → IsWalked self.old index (node.number ∷ left) → IsWalked self.new index left }
-        ensures contents { forgotten (contents self.new.nodes.items) index ≡ forgotten (contents self.old.nodes.items) index }
+        ensures limit { self.new.limit ≡ self.old.limit }
+        ensures contents { forgotten (contents self.new.nodes.items) index
+            ≡ forgotten (contents self.old.nodes.items) index }
     {
         if self.keeps_index(node, index) {
             self.remove(node);
         }
     }
 
-    /// Removes the flows that are too old, from the oldest on.
-    pub fn tick(&mut self, now: u64)
+    /// Removes the flows that are so old, from the oldest on.
+    pub fn tick(&mut self, age: u64, now: u64)
         requires { Sound self.old }
         ensures sound { Sound self.new }
-        ensures contents { contents self.new.nodes.items ≡ ticked (contents self.old.nodes.items) now }
+        ensures limit { self.new.limit ≡ self.old.limit }
+        ensures contents { contents self.new.nodes.items ≡ ticked (contents self.old.nodes.items) age now }
     {
-        for step in 0..self.len {
-            let oldest = self.ages.next(AGES);
-            if !self.keeps_stale(oldest, now) {
+        for _ in 0..self.len {
+            let oldest = self.oldest();
+            if !self.keeps_stale(oldest, age, now) {
                 return;
             }
             self.remove(oldest);
@@ -209,34 +206,28 @@ impl Table {
     }
 }
 
+/// Whether a time is so long ago.
+fn is_stale(updated: u64, age: u64, now: u64) -> bool
+    ensures { IsTrue result ↔ (updated + age ≤ now) }
+{
+    now.checked_sub(updated).is_some_and(|passed| passed >= age)
+}
+
 /// Nodes that keep nothing.
-fn free_nodes(alloc: Global) -> Result<Vec<Option<Entry>>, AllocError>
-    ensures sized { IfOk result (λ nodes. vec_len nodes ≡ NODES) }
+fn free_nodes(alloc: Global, limit: Limit) -> Result<Vec<Option<Entry>>, AllocError>
+    ensures sized { IfOk result (λ nodes. vec_len nodes ≡ limit.nodes) }
     ensures free { IfOk result (λ nodes. AreNone nodes.items) }
 {
-    let mut nodes = Vec::with_capacity(alloc, usize::from(NODES))?;
-    for number in 0..NODES {
-        nodes.push(None)?;
-    }
-    Ok(nodes)
+    vec![in alloc; None; limit.nodes as usize]
 }
 
 /// Links by which all nodes are in the free ring.
-fn free_chain(alloc: Global) -> Result<Links, AllocError>
-    ensures { IfOk result (λ links. AreFree links.next.items links.previous.items NODES) }
+fn free_chain(alloc: Global, limit: Limit) -> Result<Links, AllocError>
+    ensures { IfOk result (λ links. AreFree limit.nodes links.next.items links.previous.items limit.nodes) }
 {
-    let mut chains = Links::new(alloc, CHAIN_PLACES)?;
-    for number in 0..NODES {
-        chains.link(Place { number }, FREE);
+    let mut chains = Links::new(alloc, limit.nodes + CHAIN_HEADS)?;
+    for number in 0..limit.nodes {
+        chains.link(Place { number }, limit.free());
     }
     Ok(chains)
-}
-
-/// The head of the ring of a hash's bucket.
-fn bucket_of(hash: u32) -> Place
-    ensures { result.number ≡ bucket_of hash }
-{
-    Place {
-        number: NODES + (hash % u32::from(BUCKETS)) as u16,
-    }
 }

@@ -1,15 +1,14 @@
-ghost use Rattle.std.specs.Prelude.{◌≡◌, ℕ, ◌+◌, ◌-◌, ◌<◌, ◌≤◌, ◌↔◌, [], length, vec_len, vec_capacity, slice_get, slice_index_or, IsTrue, IsSome, IsNone, IfOk};
+//! The rows of a device, and what attaching and detaching a file does to them.
+
+ghost use Rattle.std.specs.Prelude.{◌≡◌, ℕ, ◌+◌, ◌<◌, ◌≤◌, ◌↔◌, [], length, vec_len, vec_capacity, slice_get, IsTrue, IsSome, IsNone, IfOk, IfSome};
 ghost use Rattle.tap_queues.specs.declared.queues.Row.{Row};
-ghost use Rattle.tap_queues.specs.Rows.{detached};
+ghost use Rattle.tap_queues.specs.Rows.{index_of, detached};
 
 use std::alloc::{AllocError, Global};
 use std::marker::Model;
 
 /// How many rows a device has at most.
 pub const MAX_QUEUES: usize = 256;
-
-/// How many file numbers there are.
-const FILES: usize = 65_536;
 
 /// The queue at one index.
 #[derive(Clone, Copy, Debug, PartialEq, Eq)]
@@ -35,23 +34,21 @@ pub struct Moved {
 #[derive(Drop)]
 pub struct Queues {
     rows: Vec<Row>,
-
-    // At an attached file's number its index. What stands at another file's number says nothing.
-    indices: Vec<u8>,
 }
 
 // Clauses see the rows.
 impl Model for Queues {
-    ghost use Rattle.std.specs.Prelude.{◌≡◌, ◌≤◌, List, vec_len, vec_capacity};
+    ghost use Rattle.std.specs.Prelude.{◌≤◌, List, vec_capacity};
+    ghost use Rattle.tap_queues.specs.declared.queues.TheConstants.{MAX_QUEUES};
     ghost use Rattle.tap_queues.specs.declared.queues.Row.{Row};
 
     ghost Value = { List Row };
 
-    ghost use Rattle.tap_queues.specs.Rows.{AreIndexed};
+    ghost use Rattle.tap_queues.specs.Rows.{AreRows};
 
     ghost view = { λ q. q.rows.items };
 
-    ghost invariant = { λ q. (vec_len q.rows ≤ 256) × (256 ≤ vec_capacity q.rows) × (vec_len q.indices ≡ 65536) × AreIndexed q.rows.items q.indices.items };
+    ghost invariant = { λ q. AreRows q.rows.items × (MAX_QUEUES ≤ vec_capacity q.rows) };
 }
 
 impl Queues {
@@ -63,7 +60,6 @@ impl Queues {
     {
         Ok(Queues {
             rows: Vec::with_capacity(alloc, MAX_QUEUES)?,
-            indices: vec![in alloc; 0; FILES]?,
         })
     }
 
@@ -97,21 +93,16 @@ impl Queues {
         self.rows.get(usize::from(index)).copied()
     }
 
-    /// The index of a file's row, in one step.
+    /// The index of a file's row.
     pub fn index_of(&self, file: u16) -> Option<u16>
         ensures index { result ≡ index_of self.now file }
         ensures exact { (i : ℕ) → (result ≡ Some i) ↔ IsRowOf self.now file i }
     {
-        let index = self.indices[usize::from(file)];
-        let row = self.rows.get(usize::from(index))?;
-        if row.file == file {
-            Some(u16::from(index))
-        } else {
-            None
-        }
+        let index = place_of(&self.rows, file)?;
+        Some(index as u16)
     }
 
-    /// Whether a file has a row, in one step.
+    /// Whether a file has a row.
     pub fn contains(&self, file: u16) -> bool
         ensures { IsTrue result ↔ IsSome (index_of self.now file) }
     {
@@ -126,10 +117,9 @@ impl Queues {
         ensures rows { self.new ≡ attached self.old file epoch }
         ensures sound { AreRows self.new }
     {
-        let index = self.rows.len() as u8;
+        let index = self.rows.len() as u16;
         self.rows.push_reserved(Row { file, epoch });
-        self.indices[usize::from(file)] = index;
-        u16::from(index)
+        index
     }
 
     /// Writes the last row over the file's row, drops the last, and says which file moved where.
@@ -140,22 +130,21 @@ impl Queues {
         ensures rows { self.new ≡ detached self.old result.hole }
         ensures sound { AreRows self.new }
     {
-        let index = self.indices[usize::from(file)];
-        let hole = usize::from(index);
-        fill_hole(&mut self.rows, hole);
-        if hole == self.rows.len() {
-            return Moved {
-                hole: u16::from(index),
-                moved: None,
-            };
-        }
-        let moved = self.rows[hole].file;
-        self.indices[usize::from(moved)] = index;
+        let hole = self.index_of(file).unwrap();
+        fill_hole(&mut self.rows, usize::from(hole));
         Moved {
-            hole: u16::from(index),
-            moved: Some(moved),
+            hole,
+            moved: self.at(hole).map(|row| row.file),
         }
     }
+}
+
+/// The place of a file's row.
+fn place_of(rows: &[Row], file: u16) -> Option<usize>
+    ensures place { result ≡ index_of rows.now file }
+    ensures within { IfSome result (λ place. place < length rows.now) }
+{
+    rows.iter().position(|row| row.file == file)
 }
 
 /// Writes the last row over the one at `hole`, and drops the last.
@@ -163,9 +152,7 @@ impl Queues {
 fn fill_hole(rows: &mut Vec<Row>, hole: usize)
     requires { hole < vec_len rows.old }
     ensures rows { rows.new.items ≡ detached rows.old.items hole }
-    ensures len { vec_len rows.new + 1 ≡ vec_len rows.old }
     ensures capacity { vec_capacity rows.new ≡ vec_capacity rows.old }
-    ensures moved { (d : Row) → hole + 1 < vec_len rows.old → slice_index_or rows.new.items hole d ≡ slice_index_or rows.old.items (vec_len rows.old - 1) d }
 {
     let _ = rows.swap_remove(hole);
 }

@@ -1,5 +1,5 @@
-use Rattle.tap_flows.specs.Flows.{IsNotBefore}
+use Rattle.tap_flows.specs.FlowList.{AreNotAfter}
 use Rattle.flows_bench.proofs.flows.learn_all.Given as goal
 
 abbrev pub invariant-loop-call : goal.invariant-loop-call
-invariant-loop-call l = IsNotBefore 1000000 l.flows
+invariant-loop-call l = AreNotAfter 1000000 l.flows.flows

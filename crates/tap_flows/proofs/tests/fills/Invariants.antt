@@ -1,5 +1,5 @@
-use Rattle.tap_flows.specs.Flows.{IsNotBefore}
+use Rattle.tap_flows.specs.FlowList.{AreNotAfter}
 use Rattle.tap_flows.proofs.tests.fills.Given as goal
 
 abbrev pub invariant-loop-hash : goal.invariant-loop-hash
-invariant-loop-hash g l = IsNotBefore 0 l.flows
+invariant-loop-hash g l = AreNotAfter 0 l.flows.flows

@@ -1,8 +1,7 @@
-use Rattle.std.proofs.Common.{sym, subst}
-use Rattle.tap_flows.specs.Flow.{FlowMap}
-use Rattle.tap_flows.specs.Flows.{IsNotBefore}
-use Rattle.tap_flows.proofs.FlowLemmas.{latest_empty}
+use Rattle.std.proofs.Common.{ap}
+use Rattle.tap_flows.specs.declared.heads.Limit.{Limit}
+use Rattle.tap_flows.proofs.FlowLemmas.{new_value}
 use Rattle.tap_flows.proofs.flows.Flows.new.Goals as goal
 
-pub returns-clause-latest : goal.returns-clause-latest
-returns-clause-latest c = λ now. subst (λ (flows : FlowMap). IsNotBefore now flows) (sym c.in_ok-new.ensures.empty) (latest_empty now)
+pub returns : goal.returns
+returns c = record { empty = new_value c.in_ok-new.field-0 c.args.limit c.args.age (ap (λ (l : Limit). l.nodes) c.in_ok-new.ensures.limit) c.in_ok-new.ensures.empty }

@@ -7,7 +7,7 @@ use Rattle.tap_flows.proofs.table.Table.remove_of.Goals as goal
 pub keeps_index-requires : goal.keeps_index-requires
 keeps_index-requires c =
     let a = c.requires.aged in
-    let node = cut_node _ _ _ _ _ _ a.0 c.args.node.number a.1 a.2 in
+    let node = cut_node _ _ _ _ _ _ _ a.0 c.args.node.number a.1 a.2 in
     let counted : c.args.self.now.nodes.len ≡ length c.args.self.now.nodes.items = search rules in
     omega (arith, node.0, (sizes c.args.self.now _ a.2).nodes)
 
