@@ -1,0 +1,9 @@
+-- One name more is aged.
+use Rattle.std.proofs.Common.{arith}
+use Rattle.std.proofs.lemmas.Grind.{common_steps}
+use Rattle.std.proofs.lemmas.List.Edits.{map_over_more}
+use Rattle.tap_steer.specs.After.{aged}
+use Rattle.tap_steer.proofs.changes.tick_all.Goals as goal
+
+pub loop-slot-preserved : goal.loop-slot-preserved
+loop-slot-preserved c = grind (arith, common_steps, map_over_more (aged c.args.now))

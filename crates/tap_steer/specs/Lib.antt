@@ -1,0 +1,10 @@
+pub mod Table
+pub mod Rules
+pub mod After
+pub mod Select
+pub mod Sound
+pub mod Named
+pub mod Examples
+pub mod Laws
+pub mod Slot
+pub mod State

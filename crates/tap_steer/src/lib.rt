@@ -1,0 +1,37 @@
+//! The table of a tap: which files stand at which devices, and which queue gets a frame.
+//!
+//! To a contract [`Steer`] is the plain table of `specs/Table.antt`: the clock, the files by number, and by
+//! number of name the device that there is, with its settings, its queue rows and its flows. An operation
+//! is refused with the first rule of `specs/Rules.antt` that it breaks; what it changes otherwise is
+//! `specs/After.antt`, and which queue gets a frame `specs/Select.antt`. `specs/Laws.antt` says what holds
+//! after any lawful operations. Only `new` takes memory.
+#![tactic(auto)]
+
+mod changes;
+mod error;
+mod files;
+mod laws;
+mod operation;
+mod rules;
+mod selection;
+mod settings;
+mod slot;
+mod state;
+mod steer;
+#[cfg(test)]
+mod tests;
+
+pub use error::{Busy, Invalid, TapErr, TooBig};
+pub use files::{Attachment, File};
+pub use laws::{
+    devices_have_files, epochs_never_fall, names_stay, persistent_devices_stay, reached_is_sound,
+    worked_examples,
+};
+pub use operation::{
+    IFF_ATTACH_QUEUE, IFF_DETACH_QUEUE, IFF_MULTI_QUEUE, IFF_NO_PI, IFF_TAP, IFF_TUN_EXCL,
+    IFF_UNSUPPORTED, IFF_VNET_HDR, Op,
+};
+pub use selection::{Select, scaled};
+pub use settings::Settings;
+pub use steer::{NAMES, Steer};
+pub use tap_ledger::Side;
