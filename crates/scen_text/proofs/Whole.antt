@@ -1,36 +1,52 @@
--- The reader of whole texts against the form.
-use Rattle.std.proofs.Common.{◌≡◌, ℕ, ◌<◌, List, length, Option, Some, None, sym, ap, ◌∙◌}
-use Rattle.scen_text.specs.declared.scenario.OneFile.{OneFile}
+-- A whole text: what its first line and the lines behind it make.
+use Rattle.std.proofs.Common.{◌≡◌, ℕ, ◌+◌, ◌<◌, ◌≤◌, ◌^◌, Bool, true, false, List, [], ◌∷◌, length, Option, Some, None, Result, Ok, Err, refl, sym, ap, ◌∙◌, ltb, arith}
+use Rattle.std.proofs.lemmas.Bool.{le-ltb, lt-ltb}
+use Rattle.text_fields.specs.Lines.{lines_of}
+use Rattle.scen_text.specs.declared.builder.Builder.{Builder}
+use Rattle.scen_text.specs.declared.fault.OrMemory.{OrMemory}
+use Rattle.scen_text.specs.declared.fault.OrMemory.TheVariants as error
+use Rattle.scen_text.specs.declared.fault.ScenFault.{ScenFault}
+use Rattle.scen_text.specs.declared.fault.Why.{Why}
+use Rattle.scen_text.specs.declared.fault.Why.TheVariants as why
 use Rattle.scen_text.specs.declared.scenario.Scenario.{Scenario}
-use Rattle.scen_text.specs.Reading.{read_of}
-use Rattle.scen_text.specs.ScenarioText.{Fits, IsOneFile, IsText, scenario_of, scenario_text}
-use Rattle.scen_text.proofs.Again.{read_again_all}
-use Rattle.scen_text.proofs.Takes.{read_takes}
+use Rattle.scen_text.specs.declared.sentence.Sentence.{Sentence}
+use Rattle.scen_text.specs.Building.{Builds, Keeps}
+use Rattle.scen_text.specs.Refusals.{first_refusal, said_from, said_in, said_of, said_of_lines}
+use Rattle.scen_text.specs.Scenario.{IsError, Stands, scenario_of}
+use Rattle.scen_text.specs.Sentences.{version_of}
+use Rattle.scen_text.proofs.Lines.{lines_bound}
 
--- what isn't read is no text of the form
-pub not_read : (bytes : List ℕ) (o : Option OneFile) → o ≡ read_of bytes → o ≡ None → IsText bytes → ⊥
-not_read bytes o read none text =
-    let again : read_of bytes ≡ Some text.0 = ap read_of text.2 ∙ read_again_all text.0 text.1 in
-    let clash : None ≡ Some text.0 = sym none ∙ read ∙ again in
-    cc
+pub too_long : (bytes : List ℕ) → 67108864 < length bytes → first_refusal bytes ≡ Some (let f : ScenFault = record { line = 0; why = why.TooLong } in f)
+unfolding said_of
+too_long bytes h = rw (lt-ltb 67108864 (length bytes) h) refl
 
-fits_of : (bytes : List ℕ) (o : Option OneFile) (f : OneFile) → o ≡ read_of bytes → o ≡ Some f → Fits f × (bytes ≡ scenario_text (scenario_of f))
-fits_of bytes o f read some = read_takes bytes f (sym read ∙ some)
+-- a text within the limit is judged by its lines
+by_lines : (bytes : List ℕ) → length bytes ≤ 67108864 → said_of bytes ≡ said_of_lines (lines_of bytes)
+unfolding said_of
+by_lines bytes h = rw (le-ltb 67108864 (length bytes) h) refl
 
-pub few_commands : (bytes : List ℕ) (o : Option OneFile) (f : OneFile) → o ≡ read_of bytes → o ≡ Some f → length f.commands < 200000
-few_commands bytes o f read some = (fits_of bytes o f read some).0.commands
+pub no_line : (bytes : List ℕ) → length bytes ≤ 67108864 → lines_of bytes ≡ [] → first_refusal bytes ≡ Some (let f : ScenFault = record { line = 1; why = why.Version } in f)
+unfolding said_of_lines
+no_line bytes h none = rw (by_lines bytes h, none) refl
 
-pub is_text_of : (bytes : List ℕ) (o : Option OneFile) (f : OneFile) (s : Scenario) → o ≡ read_of bytes → o ≡ Some f → s ≡ scenario_of f
-    → IsOneFile s × (bytes ≡ scenario_text s)
-is_text_of bytes o f s read some made =
-    let p = fits_of bytes o f read some in
-    ((f, p.0, made), p.1 ∙ ap scenario_text (sym made))
+pub bad_version : (bytes first : List ℕ) (rest : List (List ℕ)) (w : Why) → length bytes ≤ 67108864 → lines_of bytes ≡ first ∷ rest → version_of first ≡ Err w
+    → first_refusal bytes ≡ Some (let f : ScenFault = record { line = 1; why = w } in f)
+unfolding said_of_lines
+bad_version bytes first rest w h is v = rw (by_lines bytes h, is, v) refl
 
-one_value : (f g : OneFile) → Some f ≡ Some g → f ≡ g
-one_value f g e = cc
+pub few_lines : (bytes first : List ℕ) (rest : List (List ℕ)) → length bytes ≤ 67108864 → lines_of bytes ≡ first ∷ rest → length rest + 2 < 2 ^ 32
+few_lines bytes first rest h is =
+    let count = ap (λ (ls : List (List ℕ)). length ls) is in
+    omega (arith, lines_bound bytes, count)
 
-pub no_other : (bytes : List ℕ) (o : Option OneFile) (f : OneFile) (s : Scenario) → o ≡ read_of bytes → o ≡ Some f → s ≡ scenario_of f
-    → (g : OneFile) → Fits g → bytes ≡ scenario_text (scenario_of g) → s ≡ scenario_of g
-no_other bytes o f s read some made g fits text =
-    let again : read_of bytes ≡ Some g = ap read_of text ∙ read_again_all g fits in
-    made ∙ ap scenario_of (one_value f g (sym some ∙ read ∙ again))
+pub refused : (bytes first : List ℕ) (rest : List (List ℕ)) (v : ℕ) (e : OrMemory ScenFault) → length bytes ≤ 67108864 → lines_of bytes ≡ first ∷ rest
+    → version_of first ≡ Ok v → Builds v rest (Err e) → IsError bytes e
+unfolding said_of_lines
+refused bytes first rest v (error.Fault f) h is version builds = rw (by_lines bytes h, is, version, builds) refl
+refused bytes first rest v error.NoMemory h is version builds = tt
+
+pub found : (bytes first : List ℕ) (rest : List (List ℕ)) (v : ℕ) (b : Builder) (s : Scenario) → length bytes ≤ 67108864 → lines_of bytes ≡ first ∷ rest
+    → version_of first ≡ Ok v → Builds v rest (Ok b) → ((said : List Sentence) → Keeps b said → s ≡ scenario_of (said_in v said)) → Stands bytes s
+unfolding said_of_lines
+found bytes first rest v b s h is version builds made =
+    (said_in v builds.0, rw (by_lines bytes h, is, version, builds.1) refl, made builds.0 builds.2)

@@ -1,9 +1,8 @@
 -- This project's own: the fields and lines of which scenarios, traces and reports are made.
-use Rattle.std.specs.Prelude.{ℕ, Bool, ◌&&◌, ◌||◌, not, ◌==◌, nat_le, List, [], ◌∷◌, ◌++◌, length, codes}
-use Rattle.std.specs.List.{join_with_byte, flat_map, list_all}
+use Rattle.std.specs.Prelude.{ℕ, List, [], ◌∷◌, ◌++◌}
+use Rattle.std.specs.List.{join_with_byte, flat_map}
 use Rattle.std.specs.Fmt.{decimal}
 use Rattle.std.specs.Int.{w16, to_be_bytes}
-use Rattle.std.specs.Str.{bytes_eq}
 use Rattle.hex.specs.Hex.{encode_lower}
 use Rattle.tap_frame.specs.declared.name.Name.{Name}
 
@@ -22,12 +21,3 @@ hex4 n = encode_lower (to_be_bytes w16 n)
 -- the name of a frame: ACTOR.TURN.PART
 abbrev pub frame_name : Name → List ℕ
 frame_name n = decimal n.actor ++ 46 ∷ decimal n.turn ++ 46 ∷ decimal n.part
-
--- a letter, a digit, `_`, `-` or `.`
-abbrev pub is_name_byte : ℕ → Bool
-is_name_byte b =
-    nat_le 97 b && nat_le b 122 || nat_le 65 b && nat_le b 90 || nat_le 48 b && nat_le b 57 || b == 95 || b == 45 || b == 46
-
--- the name of a device: 1 to 15 such bytes, and not `-` alone
-abbrev pub is_name : List ℕ → Bool
-is_name bytes = list_all is_name_byte bytes && not (length bytes == 0) && nat_le (length bytes) 15 && not (bytes_eq bytes (codes "-"))

@@ -4,13 +4,13 @@ ghost use Rattle.std.specs.Prelude.{◌≡◌, ◌++◌, ◌∷◌, [], OnOk, If
 ghost use Rattle.std.specs.List.{join_with_byte, flat_map};
 ghost use Rattle.hex.specs.Hex.{encode_lower};
 ghost use Rattle.scen_text.specs.Field.{line, text, frame_name};
-ghost use Rattle.scen_text.specs.TraceText.{answer_fields, op_fields, answer_line, bad_number, cause_fields, op_line, phase_part, phase_parts, place_line, file_part, trace_text};
+ghost use Rattle.scen_text.specs.TraceText.{answer_fields, op_fields, answer_line, bad_number, cause_fields, discard_fields, fate_fields, flag, op_line, phase_part, phase_parts, place_line, file_part, trace_text};
 
-use crate::fate::{Cause, Fate};
 use crate::trace::{Answer, AnswerLine, FilePart, OpLine, OpText, PhasePart, PlaceLine, Trace};
 use std::alloc::{AllocError, Global};
 use std::fmt::Write;
 use tap_frame::{BadFrame, Name};
+use tap_ledger::{Cause, Fate};
 
 /// The number that is printed for a refused frame.
 fn bad_number(bad: BadFrame) -> u8
@@ -59,17 +59,115 @@ fn put_op(out: &mut String, alloc: Global, op: &OpLine) -> Result<(), AllocError
     out.push('\n')
 }
 
+fn flag(shut: bool) -> u8
+    ensures { result ≡ flag shut }
+{
+    if shut { 1 } else { 0 }
+}
+
+fn put_gone(
+    out: &mut String,
+    file: Option<u16>,
+    want: u16,
+    found: u16,
+    shut: bool,
+) -> Result<(), AllocError>
+    ensures { OnOk result (string_bytes out.new
+        ≡ string_bytes out.old ++ join_with_byte 32 (codes "drop" ∷ cause_fields file (Cause.Gone want found shut))) }
+{
+    let shut = flag(shut);
+    out.push_str("drop Gone ")?;
+    if let Some(file) = file {
+        write!(out, "{file} ")?;
+    }
+    write!(out, "{want} {found} {shut}")
+}
+
+fn put_full(out: &mut String, file: Option<u16>, claimed: u64, freed: u64) -> Result<(), AllocError>
+    ensures { OnOk result (string_bytes out.new
+        ≡ string_bytes out.old ++ join_with_byte 32 (codes "drop" ∷ cause_fields file (Cause.Full claimed freed))) }
+{
+    out.push_str("drop Full ")?;
+    if let Some(file) = file {
+        write!(out, "{file} ")?;
+    }
+    write!(out, "{claimed} {freed}")
+}
+
+fn put_overrun(
+    out: &mut String,
+    file: Option<u16>,
+    need: u32,
+    quota: u16,
+    had: u64,
+) -> Result<(), AllocError>
+    ensures { OnOk result (string_bytes out.new
+        ≡ string_bytes out.old ++ join_with_byte 32 (codes "drop" ∷ cause_fields file (Cause.Overrun need quota had))) }
+{
+    out.push_str("drop Overrun ")?;
+    if let Some(file) = file {
+        write!(out, "{file} ")?;
+    }
+    write!(out, "{need} {quota} {had}")
+}
+
+fn put_spent(out: &mut String, file: Option<u16>, claimed: u64) -> Result<(), AllocError>
+    ensures { OnOk result (string_bytes out.new
+        ≡ string_bytes out.old ++ join_with_byte 32 (codes "drop" ∷ cause_fields file (Cause.Spent claimed))) }
+{
+    out.push_str("drop Spent ")?;
+    if let Some(file) = file {
+        write!(out, "{file} ")?;
+    }
+    write!(out, "{claimed}")
+}
+
 fn put_dropped(out: &mut String, file: Option<u16>, cause: Cause) -> Result<(), AllocError>
-    ensures { OnOk result (string_bytes out.new ≡ string_bytes out.old ++ join_with_byte 32 (codes "drop" ∷ cause_fields file cause)) }
+    ensures { OnOk result (string_bytes out.new
+        ≡ string_bytes out.old ++ join_with_byte 32 (codes "drop" ∷ cause_fields file cause)) }
 {
     match cause {
-        Cause::Full { claimed, freed } => {
-            out.push_str("drop Full ")?;
-            if let Some(file) = file {
-                write!(out, "{file} ")?;
-            }
-            write!(out, "{claimed} {freed}")
+        Cause::NoQueue => out.push_str("drop NoQueue"),
+        Cause::Filtered => out.push_str("drop Filtered"),
+        Cause::Gone { want, found, shut } => put_gone(out, file, want, found, shut),
+        Cause::Full { claimed, freed } => put_full(out, file, claimed, freed),
+        Cause::Purged => out.push_str("drop Purged"),
+        Cause::Overrun { need, quota, had } => put_overrun(out, file, need, quota, had),
+        Cause::Cut => out.push_str("drop Cut"),
+        Cause::Spent { claimed } => put_spent(out, file, claimed),
+    }
+}
+
+// The length of a frame that had a place and was discarded, and for what.
+fn put_discarded(out: &mut String, len: u32, cause: Cause) -> Result<(), AllocError>
+    ensures { OnOk result (string_bytes out.new ≡ string_bytes out.old ++ line (decimal len ∷ discard_fields cause)) }
+{
+    match cause {
+        Cause::NoQueue => writeln!(out, "{len} NoQueue"),
+        Cause::Filtered => writeln!(out, "{len} Filtered"),
+        Cause::Gone { want, found, shut } => {
+            writeln!(out, "{len} Gone {want} {found} {}", flag(shut))
         }
+        Cause::Full { claimed, freed } => writeln!(out, "{len} Full {claimed} {freed}"),
+        Cause::Purged => writeln!(out, "{len} purged"),
+        Cause::Overrun { need, quota, had } => {
+            writeln!(out, "{len} overrun {need} {quota} {had}")
+        }
+        Cause::Cut => writeln!(out, "{len} cut"),
+        Cause::Spent { claimed } => writeln!(out, "{len} Spent {claimed}"),
+    }
+}
+
+// The length of a frame that had a place, and what became of it.
+fn put_fated(out: &mut String, len: u32, fate: Fate) -> Result<(), AllocError>
+    ensures { OnOk result (string_bytes out.new ≡ string_bytes out.old ++ line (decimal len ∷ fate_fields fate)) }
+{
+    match fate {
+        Fate::Waiting => writeln!(out, "{len} waiting"),
+        Fate::Read => writeln!(out, "{len} read"),
+        Fate::Guest => writeln!(out, "{len} guest"),
+        Fate::Host => writeln!(out, "{len} host"),
+        Fate::Discarded(cause) => put_discarded(out, len, cause),
     }
 }
 
@@ -90,7 +188,8 @@ fn put_read(
 }
 
 fn put_answer_text(out: &mut String, alloc: Global, answer: &Answer) -> Result<(), AllocError>
-    ensures { OnOk result (string_bytes out.new ≡ string_bytes out.old ++ join_with_byte 32 (answer_fields answer.now)) }
+    ensures { OnOk result (string_bytes out.new ≡ string_bytes out.old
+        ++ join_with_byte 32 (answer_fields answer.now)) }
 {
     match answer {
         Answer::Version(version) => write!(out, "ok {version}"),
@@ -125,11 +224,8 @@ fn put_place(out: &mut String, place: &PlaceLine) -> Result<(), AllocError>
 {
     write!(out, "line {} {} ", place.place, place.epoch)?;
     put_name(out, place.name)?;
-    write!(out, " {} ", place.len)?;
-    match place.fate {
-        Fate::Waiting => out.push_str("waiting\n"),
-        Fate::Read => out.push_str("read\n"),
-    }
+    out.push(' ')?;
+    put_fated(out, place.len, place.fate)
 }
 
 fn put_phase(

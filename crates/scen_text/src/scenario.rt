@@ -1,30 +1,53 @@
 //! A scenario as plain data.
 
 use crate::command::Command;
-use crate::name_text::Text;
+use ebpf_code::Program;
 use sqlite_items::Items;
+use text_fields::DeviceName;
 
 /// A whole scenario.
-#[derive(Debug, Drop)]
+#[derive(Drop)]
 pub struct Scenario {
     /// The number behind `tapscen`.
     pub version: u8,
     /// The declarations in their order.
     pub declarations: Items<Declaration>,
     /// The names of devices in order of first appearance; elsewhere a name is its number here.
-    pub names: Items<Text>,
+    pub names: Items<DeviceName>,
     /// The phases, which run one after the other.
     pub phases: Items<Phase>,
 }
 
 /// One declaration.
-#[derive(Clone, Copy, Debug, PartialEq, Eq)]
+#[derive(Drop)]
 pub enum Declaration {
     /// `file F CAP FIRST`: a file, the number of places of its ring, and the number of its first place.
     File {
         file: u16,
         capacity: u16,
         first: u64,
+    },
+    /// `region G ADDR LEN`: the next region of a guest's memory.
+    Region {
+        guest: u16,
+        addr: u64,
+        len: u64,
+    },
+    /// `vhost V G`: a vhost over a guest's memory.
+    Vhost {
+        vhost: u16,
+        guest: u16,
+    },
+    /// `prog P HEX`: a program.
+    Prog {
+        program: u16,
+        code: Program,
+    },
+    /// `flows NAME LIMIT AGE`: how many flows the device of this name remembers, and for how many milliseconds.
+    Flows {
+        name: u16,
+        limit: u32,
+        age: u64,
     },
 }
 
@@ -51,13 +74,4 @@ pub struct Line {
     /// Its number, from 0 over the whole scenario.
     pub number: u32,
     pub command: Command,
-}
-
-/// The parts of a scenario of one device file: a ring of so many places, attached to the device of this
-/// name, and the sends and reads that follow.
-#[derive(Debug, Drop)]
-pub struct OneFile {
-    pub capacity: u16,
-    pub name: Text,
-    pub commands: Items<Command>,
 }

@@ -1,9 +1,9 @@
 //! A trace as plain data.
 
-use crate::fate::{Cause, Fate};
-use crate::name_text::Text;
 use sqlite_items::Items;
 use tap_frame::{BadFrame, Name};
+use tap_ledger::{Cause, Fate};
+use text_fields::Text;
 
 /// What a run did.
 #[derive(Debug, Drop)]

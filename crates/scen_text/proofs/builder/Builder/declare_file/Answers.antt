@@ -1,0 +1,22 @@
+use Rattle.std.proofs.Common.{◌≡◌, ℕ, true, false, ◌&&◌, ◌||◌, Option, Some, None, List, [], ◌∷◌, ◌++◌, refl, sym, ap, ◌∙◌, arith}
+use Rattle.std.specs.List.{list_any}
+use Rattle.std.specs.Option.{option_copied}
+use Rattle.scen_text.specs.Refusals.{is_block, is_file, is_flows, is_guest, is_misplaced, is_program, is_unknown, is_vhost, passes_limit, passes_names, regions_of}
+use Rattle.scen_text.specs.Commands.{bytes_at, command_of, commanded_name, declaration_of, declared_name, u16_at, u64_at}
+use Rattle.scen_text.specs.Building.{shown, standing, with_declaration}
+use Rattle.scen_text.specs.Before.{Before, number_for}
+use Rattle.scen_text.specs.declared.scenario.Declaration.{Declaration}
+use Rattle.scen_text.specs.declared.word.DeclarationWord.TheVariants as declaration
+use Rattle.scen_text.proofs.Steps.{file_good, file_twice, hears_declaration}
+use Rattle.scen_text.proofs.builder.Builder.declare_file.Goals as goal
+
+pub returns-then-has_file : goal.returns-then-has_file
+returns-then-has_file c = let t : list_any (is_file (u16_at c.args.values.now 0)) c.args.self.now.declarations ≡ true = cc in file_twice (standing c.args.self.now) c.args.last c.args.values.now c.requires t
+
+pub returns : goal.returns
+returns c =
+    let t : list_any (is_file (u16_at c.args.values.now 0)) c.args.self.now.declarations ≡ false = cc in (
+      file_good (standing c.args.self.now) c.args.last c.args.values.now c.requires t,
+      hears_declaration c.args.self.now c.add_declaration.new.self declaration.File c.args.values.now
+          (c.in_ok-add_declaration.ensures.standing ∙ ap (λ (d : Declaration). with_declaration (standing c.args.self.now) d None) c.file.ensures) c.in_ok-add_declaration.ensures.phases,
+    )

@@ -1,0 +1,6 @@
+use Rattle.scen_text.specs.ScenarioText.{actor_row}
+use Rattle.scen_text.proofs.Loops.{text_more}
+use Rattle.scen_text.proofs.writing.put_actor_lines.Goals as goal
+
+pub loop-each-preserved : goal.loop-each-preserved
+loop-each-preserved c = text_more (actor_row c.args.names.now) _ _ _ c.args.lines.now c.loop-each.each-index c.each-item.result _ c.loop-each-test.true c.each-item.is c.loop-each.invariant c.in_ok-put_actor.ensures

@@ -1,0 +1,11 @@
+pub mod Cuts
+pub mod Filling
+pub mod DigitLemmas
+pub mod FormLaws
+pub mod HexText
+pub mod LineLaws
+pub mod NameLemmas
+pub mod Numerals
+pub mod Steps
+pub mod ValueLaws
+pub mod Writes

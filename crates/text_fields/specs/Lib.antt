@@ -1,0 +1,10 @@
+pub mod Answers
+pub mod Fields
+pub mod Finished
+pub mod FormData
+pub mod Forms
+pub mod Hexadecimal
+pub mod Laws
+pub mod Lines
+pub mod Names
+pub mod Numbers
