@@ -1,12 +1,16 @@
--- How many commands a scenario of one file has.
-use Rattle.std.proofs.Common.{◌≡◌, ◌^◌, ◌<◌, List, length, ap, arith}
-use Rattle.scen_text.specs.declared.command.Command.{Command}
-use Rattle.scen_text.specs.declared.scenario.OneFile.{OneFile}
-use Rattle.scen_text.specs.declared.scenario.Scenario.{Scenario}
-use Rattle.scen_text.specs.ScenarioText.{IsOneFile, all_commands, scenario_of}
+-- How many commands there are.
+use Rattle.std.proofs.Common.{◌≡◌, ℕ, ◌+◌, ◌<◌, List, [], ◌∷◌, ◌++◌, length, take, get_or, sym, ap, ◌∙◌, arith}
+use Rattle.std.proofs.lemmas.List.{take_more}
+use Rattle.scen_text.specs.declared.scenario.Phase.{Phase}
+use Rattle.tap_top.specs.Top.{command_count}
 
-pub few_commands : (s : Scenario) (cs : List Command) → IsOneFile s → ((f : OneFile) → s ≡ scenario_of f → cs ≡ all_commands f) → length cs < 2 ^ 32
-few_commands s cs is commands =
-    let few = is.1.commands in
-    let same : length cs ≡ length (all_commands is.0) = ap length (commands is.0 is.2) in
+command_count-push : (ps : List Phase) (p : Phase) → command_count (ps ++ p ∷ []) ≡ command_count ps + length p.lines
+command_count-push [] p = omega arith
+command_count-push (q ∷ qs) p = omega (arith, command_count-push qs p)
+
+pub count_more : (i : ℕ) (ps : List Phase) (p d : Phase) (count after : ℕ) → i < length ps → p ≡ get_or ps i d → count ≡ command_count (take i ps)
+    → after ≡ count + length p.lines → after ≡ command_count (take (i + 1) ps)
+count_more i ps p d count after lt is so_far sum =
+    let front : take (i + 1) ps ≡ take i ps ++ p ∷ [] = take_more ps i d lt ∙ ap (λ (x : Phase). take i ps ++ x ∷ []) (sym is) in
+    let whole : command_count (take (i + 1) ps) ≡ command_count (take i ps) + length p.lines = ap command_count front ∙ command_count-push (take i ps) p in
     omega arith

@@ -10,8 +10,8 @@ use Rattle.tap_frame.specs.Spelling.{first_case}
 use Rattle.tap_frame.specs.declared.header.Hdr.{Hdr}
 use Rattle.scen_text.specs.declared.command.Command.{Command}
 use Rattle.scen_text.specs.declared.command.Command.TheVariants.{Send}
-use Rattle.scen_text.specs.declared.fate.Cause.TheVariants.{Full}
-use Rattle.scen_text.specs.declared.fate.Fate.TheVariants as fate
+use Rattle.tap_ledger.specs.declared.fate.Cause.TheVariants.{Full}
+use Rattle.tap_ledger.specs.declared.fate.Fate.TheVariants as fate
 use Rattle.scen_text.specs.declared.trace.Answer.{Answer}
 use Rattle.scen_text.specs.declared.trace.Answer.TheVariants.{Placed, Dropped, Read, Again}
 use Rattle.scen_text.specs.declared.trace.PlaceLine.{PlaceLine}

@@ -10,12 +10,11 @@ use Rattle.tap_frame.specs.declared.reading.BadFrame.{BadFrame}
 use Rattle.tap_frame.specs.Spelling.{first_case}
 use Rattle.scen_text.specs.declared.command.Command.{Command}
 use Rattle.scen_text.specs.declared.command.Command.TheVariants as command
-use Rattle.scen_text.specs.declared.fate.Cause.TheVariants.{Full}
-use Rattle.scen_text.specs.declared.scenario.OneFile.{OneFile}
+use Rattle.tap_ledger.specs.declared.fate.Cause.TheVariants.{Full}
+use Rattle.tap_top.specs.OneFile.{OneFile}
 use Rattle.scen_text.specs.declared.trace.Answer.{Answer}
 use Rattle.scen_text.specs.declared.trace.Answer.TheVariants.{Dropped, Placed}
 use Rattle.scen_text.specs.declared.trace.AnswerLine.{AnswerLine}
-use Rattle.scen_text.specs.ScenarioText.{all_commands}
 use Rattle.tap_top.specs.Run.{Entry, answer_to, answer_to_read, answer_to_send, answers, ethernet, first_waiting, line_after, line_after_send, line_of, new_entry, read_first, reads, waiting, waits}
 use Rattle.tap_top.specs.Output.{is_drop}
 use Rattle.tap_top.specs.Headline.{InOrder, OneFate, drops_of, entries_of, frame_read, frames_read, has_frame, sends_frame}
@@ -69,10 +68,10 @@ read_moves room gone (e ∷ left) line is read wait =
 
 command_moves : (capacity number : ℕ) (c : Command) (gone left line : List Entry) → line ≡ gone ++ left → AllRead gone → AllWait left
     → Moves gone (line_after capacity number c line) (frame_read (answer_to capacity c line))
-command_moves capacity number (command.SetIff file name flags) gone left line is read wait = keeps gone left line is read wait
 command_moves capacity number (command.Send name hdr bytes) gone left line is read wait =
     send_moves (first_case ethernet bytes) capacity number bytes gone left line is read wait
 command_moves capacity number (command.Read file room) gone left line is read wait = read_moves room gone left line is read wait
+command_moves capacity number attach gone left line is read wait = keeps gone left line is read wait
 
 then_moves : (gone line : List Entry) (first others : List Name) (between : Moves gone line first) (end : List Entry) → Moves between.last end others → Moves gone end (first ++ others)
 then_moves gone line first others between end after = record {
@@ -97,7 +96,7 @@ commands_move capacity number (c ∷ cs) gone left line is read wait =
 
 pub in_order : (f : OneFile) → InOrder f
 in_order f =
-    let moves = commands_move f.capacity 0 (all_commands f) [] [] [] refl tt tt in
+    let moves = commands_move f.capacity 0 f.commands [] [] [] refl tt tt in
     record { gone = moves.last; left = moves.rest; line = moves.line; read = moves.read; wait = moves.wait; order = moves.order }
 
 -- ---- one fate
@@ -150,9 +149,9 @@ counts_sent (Some bad) capacity sought number bytes line = refl
 counts_sent None capacity sought number bytes line = counts_placed (waiting line == capacity) sought number (length line) (reads line) bytes line
 
 counts_command : (capacity sought number : ℕ) (c : Command) (line : List Entry) → Counts sought number (sends_frame c) (answer_to capacity c line) (line_after capacity number c line) line
-counts_command capacity sought number (command.SetIff file name flags) line = refl
 counts_command capacity sought number (command.Send name hdr bytes) line = counts_sent (first_case ethernet bytes) capacity sought number bytes line
 counts_command capacity sought number (command.Read file room) line = rw (read_drops_none (first_waiting 0 line) room line, read_keeps_names sought line) refl
+counts_command capacity sought number attach line = refl
 
 counts_commands : (capacity sought number : ℕ) (cs : List Command) (line : List Entry)
     → entries_of sought (line_of capacity number cs line) + drops_of sought (answers capacity number cs line) ≡ entries_of sought line + frames_of number cs sought
@@ -185,6 +184,6 @@ frames_at number (c ∷ cs) (suc place) sought is =
 
 pub one_fate : (f : OneFile) → OneFate f
 one_fate f number =
-    let all = counts_commands f.capacity number 0 (all_commands f) [] in
-    let here = frames_at 0 (all_commands f) number number (omega arith) in
+    let all = counts_commands f.capacity number 0 f.commands [] in
+    let here = frames_at 0 f.commands number number (omega arith) in
     omega (arith, all, here)

@@ -1,9 +1,8 @@
 pub mod Answered
-pub mod Clauses
-pub mod Counted
+pub mod Ended
 pub mod Kept
 pub mod Laws
 pub mod Line
-pub mod OneWord
 pub mod Passing
 pub mod Written
+pub mod Counted

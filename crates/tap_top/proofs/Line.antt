@@ -2,7 +2,7 @@
 use Rattle.std.proofs.Common.{◌≡◌, ℕ, ◌+◌, Bool, true, false, cond, List, [], ◌∷◌, ◌++◌, length, Some, None, refl, sym, ap, ◌∙◌, append_assoc, arith}
 use Rattle.std.specs.List.{AllByRecursion, count_by}
 use Rattle.std.proofs.lemmas.List.Sums.{sum_by-append, sum_by-cons}
-use Rattle.scen_text.specs.declared.fate.Fate.TheVariants as fate
+use Rattle.tap_ledger.specs.declared.fate.Fate.TheVariants as fate
 use Rattle.tap_top.specs.Run.{Entry, first_waiting, read_first, reads, waiting, waits, was_read}
 
 abbrev pub AllRead : List Entry → Type 0

@@ -1,60 +1,67 @@
--- Calls of a source or a sink, one after another, with their counts of faults.
-use Rattle.std.proofs.Common.{◌≡◌, ℕ, ◌+◌, ◌-◌, ◌≤◌, List, [], ◌++◌, length, take, drop, Option, Some, None, refl, sym, ap, subst, ◌∙◌, arith}
+-- Calls of a source or a sink, one after another.
+use Rattle.std.proofs.Common.{◌≡◌, ℕ, ◌+◌, ◌-◌, ◌<◌, ◌≤◌, ◌⊎◌, List, [], ◌++◌, length, take, drop, take-add, Option, Err, refl, sym, ap, subst, ◌∙◌, arith}
 use Rattle.std.proofs.lemmas.List.{length-append}
-use Rattle.scen_text.specs.ScenarioText.{limit}
-use Rattle.tap_outside.specs.Ends.{Appends, IsAtEnd, Takes}
-use Rattle.tap_outside.proofs.Ends.{Appends-front, Takes-none, Takes-then}
-use Rattle.tap_top.specs.Course.{Passes, PassesToLimit}
+use Rattle.std.proofs.lemmas.Slice.{between_to_end}
+use Rattle.std.proofs.KnownBytes.{Appends-trans, Consumes-nil, Consumes-trans}
+use Rattle.std.specs.Prelude.{IsErrOf}
+use Rattle.std.specs.Io.KnownBytes.{Appends, Consumes, IsAtEnd}
+use Rattle.scen_text.specs.Limits.{byte_limit}
+use Rattle.tap_outside.specs.Ends.{one_more}
+use Rattle.tap_top.specs.Course.{ReadFails, ReadsPiece, ReadsWell}
+use Rattle.tap_top.specs.Top.{Source, TakesInput, source_between}
 
 -- ---- a source
 
-pub reads_none : (left : Option (List ℕ)) (faults : ℕ) (R : Type 0) (bytes : List ℕ) → bytes ≡ [] → PassesToLimit (Takes left left) faults faults R R bytes
-reads_none left faults R bytes none =
-    let nothing : PassesToLimit (Takes left left) faults faults R R [] = (record { moved = Takes-none left; never_falls = omega arith; stands = λ r. (r, refl) }, omega arith) in
-    subst (λ (x : List ℕ). PassesToLimit (Takes left left) faults faults R R x) (sym none) nothing
+pub reads_none : (left : Option (List ℕ)) (faults : ℕ) (bytes : List ℕ) → bytes ≡ [] → ReadsWell (source_between left left faults faults) bytes
+reads_none left faults bytes none =
+    let nothing : ReadsWell (source_between left left faults faults) [] =
+    record { to_limit = record { taken = Consumes-nil left; few = omega arith }; no_fault = refl }
+    in
+    subst (λ (x : List ℕ). ReadsWell (source_between left left faults faults) x) (sym none) nothing
 
--- one call: a piece, or none where it failed
-pub reads_piece : (a b : Option (List ℕ)) (f g : ℕ) (R S : Type 0) (piece : List ℕ) → Takes a b piece → f ≤ g → (R → S × (g ≡ f)) → Passes (Takes a b) f g R S piece
-reads_piece a b f g R S piece taken later stands = record { moved = taken; never_falls = later; stands = stands }
+pub reads_more : (a b c : Option (List ℕ)) (f g h : ℕ) (x y : List ℕ) → ReadsWell (source_between a b f g) x → Consumes b c y → h ≡ g
+    → length x + length y ≤ byte_limit + 1 → ReadsWell (source_between a c f h) (x ++ y)
+reads_more a b c f g h x y before taken same few = record {
+  to_limit = record { taken = Consumes-trans a b c x y before.to_limit.taken taken; few = omega (arith, length-append x y) };
+  no_fault = same ∙ before.no_fault;
+}
 
-pub reads_failed : (a b : Option (List ℕ)) (f g : ℕ) (R S : Type 0) → b ≡ a → f ≤ g → (R → S × (g ≡ f)) → Passes (Takes a b) f g R S []
-reads_failed a b f g R S same later stands =
-    reads_piece a b f g R S [] (subst (λ (o : Option (List ℕ)). Takes a o []) (sym same) (Takes-none a)) later stands
+-- one more piece, which fits what is left of the room
+pub reads_piece : (a b c : Option (List ℕ)) (f g h : ℕ) (x new : List ℕ) (room n : ℕ) → ReadsWell (source_between a b f g) x
+    → ReadsPiece b c x new room n → h ≡ g → length x + room ≤ byte_limit + 1 → ReadsWell (source_between a c f h) new
+reads_piece a b c f g h x new room n before p same few =
+    let fits : n ≤ room = p.fits in
+    let count : n ≡ length p.piece = p.count in
+    subst (λ (all : List ℕ). ReadsWell (source_between a c f h) all) (sym p.kept) (reads_more a b c f g h x p.piece before p.taken same (omega arith))
 
-pub reads_more : (a b c : Option (List ℕ)) (f g h : ℕ) (R S T : Type 0) (x y : List ℕ) → PassesToLimit (Takes a b) f g R S x → Passes (Takes b c) g h S T y
-    → length x + length y ≤ limit + 1 → PassesToLimit (Takes a c) f h R T (x ++ y)
-reads_more a b c f g h R S T x y before piece few =
-    let falls = before.0.never_falls in
-    let falls_then = piece.never_falls in (
-      record {
-        moved = Takes-then a b c x y before.0.moved piece.moved;
-        never_falls = omega arith;
-        stands = λ r. let s = before.0.stands r in let t = piece.stands s.0 in (t.0, t.1 ∙ s.1);
-      },
-      omega (arith, length-append x y),
-    )
+-- a call that failed
+pub read_fails : (a b c : Option (List ℕ)) (f g h : ℕ) (W V : Type 0) (x : List ℕ) → ReadsWell (source_between a b f g) x → Consumes b c []
+    → h ≡ one_more g → (W → V) → (V → ⊥) → ReadFails (source_between a c f h) W
+read_fails a b c f g h W V x before none rose goes_on never = record {
+  bytes = x ++ [];
+  to_limit = record {
+    taken = Consumes-trans a b c x [] before.to_limit.taken none;
+    few = let few : length x ≤ byte_limit + 1 = before.to_limit.few in omega (arith, length-append x []);
+  };
+  fault = rose ∙ ap one_more before.no_fault;
+  not_tame = λ w. never (goes_on w);
+}
 
-ends_too : (b c : Option (List ℕ)) → Takes b c [] → IsAtEnd b → IsAtEnd c
-ends_too (Some b) (Some c) taken end = sym taken ∙ end
-ends_too (Some b) None taken end = absurd taken
-ends_too None (Some c) taken end = absurd taken
-ends_too None None taken end = tt
-
--- the end was there before the call that met it
-pub at_end : (b c : Option (List ℕ)) (room : List ℕ) (n : ℕ) → Takes b c (take n room) → (n ≡ 0 → IsAtEnd b) → n ≡ 0 → IsAtEnd c
-at_end b c room n taken end none =
-    let nothing : take n room ≡ [] = ap (λ (k : ℕ). take k room) none in
-    ends_too b c (subst (λ (t : List ℕ). Takes b c t) nothing taken) (end none)
+-- all that was to be read
+pub reads_input : (source : Source) (bytes : List ℕ) → ReadsWell source bytes → (IsAtEnd source.left_now ⊎ (byte_limit < length bytes)) → TakesInput source bytes
+reads_input source bytes well whole = record { to_limit = well.to_limit; whole = whole }
 
 -- ---- a sink
 
--- the next piece of a text
-pub writes_more : (a b c : Option (List ℕ)) (f g h : ℕ) (R S T : Type 0) (text : List ℕ) (i n : ℕ) → Passes (Appends a b) f g R S (take i text)
-    → Appends b c (take n (take (length text - i) (drop i text))) → g ≤ h → (S → T × (h ≡ g)) → Passes (Appends a c) f h R T (take (i + n) text)
-writes_more a b c f g h R S T text i n before piece later stands =
-    let falls = before.never_falls in
-    record {
-      moved = Appends-front a b c text i n before.moved piece;
-      never_falls = omega arith;
-      stands = λ r. let s = before.stands r in let t = stands s.0 in (t.0, t.1 ∙ s.1);
-    }
+-- the first i bytes of a text, and then the first n of `text[i..]`
+pub Appends-front : (a b c : Option (List ℕ)) (text : List ℕ) (i n : ℕ) → Appends a b (take i text)
+    → Appends b c (take n (take (length text - i) (drop i text))) → Appends a c (take (i + n) text)
+Appends-front a b c text i n p q =
+    let rest : take (length text - i) (drop i text) ≡ drop i text = between_to_end text i (length text) (omega arith) in
+    let parts : take i text ++ take n (take (length text - i) (drop i text)) ≡ take (i + n) text = rw rest (sym (take-add i n text)) in
+    subst (λ (bytes : List ℕ). Appends a c bytes) parts (Appends-trans a b c (take i text) _ p q)
+
+-- ---- an error that is passed on
+
+pub same_error : {A B E : Type 0} (x y : E) → IsErrOf {T = A} (Err x) y → IsErrOf {T = B} (Err x) y
+same_error x y h = let same : x ≡ y = cc in ap Err same

@@ -6,9 +6,9 @@ use Rattle.std.proofs.lemmas.List.{length-append}
 use Rattle.tap_frame.specs.declared.reading.BadFrame.{BadFrame}
 use Rattle.tap_frame.specs.Spelling.{first_case}
 use Rattle.scen_text.specs.declared.command.Command.{Command}
-use Rattle.scen_text.specs.declared.command.Command.TheVariants.{SetIff, Send, Read}
-use Rattle.scen_text.specs.declared.fate.Fate.{Fate}
-use Rattle.scen_text.specs.declared.fate.Fate.TheVariants as fate
+use Rattle.scen_text.specs.declared.command.Command.TheVariants.{Send, Read}
+use Rattle.tap_ledger.specs.declared.fate.Fate.{Fate}
+use Rattle.tap_ledger.specs.declared.fate.Fate.TheVariants as fate
 use Rattle.scen_text.specs.declared.trace.AnswerLine.{AnswerLine}
 use Rattle.scen_text.specs.declared.trace.PlaceLine.{PlaceLine}
 use Rattle.scen_text.specs.declared.trace.Trace.{Trace}
@@ -20,7 +20,7 @@ use Rattle.tap_top.proofs.Line.{count_by-cons}
 
 one_or_other : (f : Fate) → cond (waits f) 1 0 + cond (was_read f) 1 0 ≡ 1
 one_or_other fate.Waiting = refl
-one_or_other fate.Read = refl
+one_or_other gone = refl
 
 pub waiting_and_read : (line : List Entry) → waiting line + reads line ≡ length line
 waiting_and_read [] = refl
@@ -52,9 +52,9 @@ sent_or_not (Some bad) capacity number bytes line = omega arith
 sent_or_not None capacity number bytes line = placed_or_not (eqb (waiting line) capacity) line (new_entry number bytes)
 
 one_longer : (capacity number : ℕ) (c : Command) (line : List Entry) → length (line_after capacity number c line) ≤ length line + 1
-one_longer capacity number (SetIff file name flags) line = omega arith
 one_longer capacity number (Send name hdr bytes) line = sent_or_not (first_case ethernet bytes) capacity number bytes line
 one_longer capacity number (Read file room) line = omega (arith, length-read_first line)
+one_longer capacity number attach line = omega arith
 
 -- a line has at most one entry a command
 pub line_is_short : (capacity number : ℕ) (cs : List Command) (line : List Entry) → length (line_of capacity number cs line) ≤ length line + length cs

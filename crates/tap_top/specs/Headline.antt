@@ -5,12 +5,11 @@ use Rattle.tap_frame.specs.declared.name.Name.{Name}
 use Rattle.tap_frame.specs.Spelling.{first_case}
 use Rattle.scen_text.specs.declared.command.Command.{Command}
 use Rattle.scen_text.specs.declared.command.Command.TheVariants as command
-use Rattle.scen_text.specs.declared.fate.Fate.TheVariants as fate
-use Rattle.scen_text.specs.declared.scenario.OneFile.{OneFile}
+use Rattle.tap_ledger.specs.declared.fate.Fate.TheVariants as fate
+use Rattle.tap_top.specs.OneFile.{OneFile}
 use Rattle.scen_text.specs.declared.trace.Answer.{Answer}
 use Rattle.scen_text.specs.declared.trace.Answer.TheVariants.{Version, Bad, Placed, Dropped, Read, Again}
 use Rattle.scen_text.specs.declared.trace.AnswerLine.{AnswerLine}
-use Rattle.scen_text.specs.ScenarioText.{all_commands}
 use Rattle.tap_top.specs.Run.{Entry, ethernet}
 use Rattle.tap_top.specs.Output.{is_drop, run_answers, run_line}
 
@@ -18,9 +17,8 @@ use Rattle.tap_top.specs.Output.{is_drop, run_answers, run_line}
 
 -- the command sends bytes that are a frame
 abbrev pub sends_frame : Command → Bool
-sends_frame (command.SetIff file name flags) = false
 sends_frame (command.Send name hdr bytes) = is_none (first_case ethernet bytes)
-sends_frame (command.Read file room) = false
+sends_frame other = false
 
 -- the command with this number does
 abbrev pub has_frame : List Command → ℕ → Bool
@@ -38,7 +36,9 @@ drops_of number answers = count_by (λ a. a.command == number && is_drop a.answe
 
 -- Each accepted frame stands in the line, with its fate, or was dropped, and not both; no other frame does.
 abbrev pub OneFate : OneFile → Type 0
-OneFate f = (number : ℕ) → entries_of number (run_line f) + drops_of number (run_answers f) ≡ (if has_frame (all_commands f) number then 1 else 0)
+OneFate f =
+    (number : ℕ) → entries_of number (run_line f) + drops_of number (run_answers f)
+    ≡ (if has_frame f.commands number then 1 else 0)
 
 -- ---- in order
 
@@ -54,7 +54,7 @@ frame_read (Again place) = []
 abbrev pub frames_read : List AnswerLine → List Name
 frames_read answers = flat_map (λ a. frame_read a.answer) answers
 
--- The line is the frames that were read and then those that wait, and the reads answered the former in the order placed.
+-- The line is the frames that were read and then those that wait; the reads answered the former in the order placed.
 pub record InOrder (f : OneFile) : Type 0 where
   pub gone : List Entry
   pub left : List Entry

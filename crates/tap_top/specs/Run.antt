@@ -1,4 +1,5 @@
--- This project's own: what one file with a ring does with the frames that are sent to its device, as a fold over the commands.
+-- This project's own: what one file with a ring does with the frames that are sent to its device, as a fold over the
+-- commands.
 use Rattle.std.specs.Prelude.{ℕ, ◌+◌, ◌==◌, Bool, true, false, if◌then◌else◌, List, [], ◌∷◌, ◌++◌, length, take, count_by, ◌≤◌, Option, Some, None, MatchOption}
 use Rattle.std.specs.Option.{ForSome}
 use Rattle.std.proofs.Common.{subst}
@@ -8,9 +9,9 @@ use Rattle.tap_frame.specs.declared.shape.Shape.{Shape}
 use Rattle.tap_frame.specs.Spelling.{first_case}
 use Rattle.scen_text.specs.declared.command.Command.{Command}
 use Rattle.scen_text.specs.declared.command.Command.TheVariants as command
-use Rattle.scen_text.specs.declared.fate.Cause.TheVariants.{Full}
-use Rattle.scen_text.specs.declared.fate.Fate.{Fate}
-use Rattle.scen_text.specs.declared.fate.Fate.TheVariants as fate
+use Rattle.tap_ledger.specs.declared.fate.Cause.TheVariants.{Full}
+use Rattle.tap_ledger.specs.declared.fate.Fate.{Fate}
+use Rattle.tap_ledger.specs.declared.fate.Fate.TheVariants as fate
 use Rattle.scen_text.specs.declared.trace.Answer.{Answer}
 use Rattle.scen_text.specs.declared.trace.Answer.TheVariants.{Version, Bad, Placed, Dropped, Read, Again}
 use Rattle.scen_text.specs.declared.trace.AnswerLine.{AnswerLine}
@@ -26,11 +27,12 @@ pub record Entry : Type 0 where
 
 abbrev pub waits : Fate → Bool
 waits fate.Waiting = true
-waits fate.Read = false
+waits gone = false
 
+-- it has left the line; in a run on one file, by a read
 abbrev pub was_read : Fate → Bool
 was_read fate.Waiting = false
-was_read fate.Read = true
+was_read gone = true
 
 abbrev pub waiting : List Entry → ℕ
 waiting line = count_by (λ e. waits e.fate) line
@@ -68,15 +70,19 @@ name_of number = record { actor = 0; turn = number; part = 0 }
 abbrev pub new_entry : ℕ → List ℕ → Entry
 new_entry number bytes = record { name = name_of number; len = length bytes; bytes = bytes; fate = fate.Waiting }
 
--- Bytes that are no frame are bad. With as many frames waiting as there are places the frame is dropped. Else it gets the next place.
+-- Bytes that are no frame are bad. With as many frames waiting as there are places the frame is dropped. Else it gets
+-- the next place.
 abbrev pub answer_to_send : Option BadFrame → ℕ → List ℕ → List Entry → Answer
 answer_to_send (Some bad) capacity bytes line = Bad bad
 answer_to_send None capacity bytes line =
-    if waiting line == capacity then Dropped (Some 0) (Full (length line) (reads line)) else Placed 0 (length line) 1 (length bytes)
+    if waiting line == capacity
+    then Dropped (Some 0) (Full (length line) (reads line))
+    else Placed 0 (length line) 1 (length bytes)
 
 abbrev pub line_after_send : Option BadFrame → ℕ → ℕ → List ℕ → List Entry → List Entry
 line_after_send (Some bad) capacity number bytes line = line
-line_after_send None capacity number bytes line = if waiting line == capacity then line else line ++ new_entry number bytes ∷ []
+line_after_send None capacity number bytes line =
+    if waiting line == capacity then line else line ++ new_entry number bytes ∷ []
 
 -- A read gives the first bytes of the first frame that waits. Where none waits, it names the place of the next.
 abbrev pub answer_to_read : Option (ℕ × Entry) → ℕ → List Entry → Answer
@@ -84,14 +90,15 @@ answer_to_read None room line = Again (length line)
 answer_to_read (Some found) room line = Read found.1.name found.0 (take room found.1.bytes)
 
 abbrev pub answer_to : ℕ → Command → List Entry → Answer
-answer_to capacity (command.SetIff file name flags) line = Version 1
 answer_to capacity (command.Send name hdr bytes) line = answer_to_send (first_case ethernet bytes) capacity bytes line
 answer_to capacity (command.Read file room) line = answer_to_read (first_waiting 0 line) room line
+answer_to capacity attach line = Version 1
 
 abbrev pub line_after : ℕ → ℕ → Command → List Entry → List Entry
-line_after capacity number (command.SetIff file name flags) line = line
-line_after capacity number (command.Send name hdr bytes) line = line_after_send (first_case ethernet bytes) capacity number bytes line
+line_after capacity number (command.Send name hdr bytes) line =
+    line_after_send (first_case ethernet bytes) capacity number bytes line
 line_after capacity number (command.Read file room) line = read_first line
+line_after capacity number attach line = line
 
 -- ---- the fold
 

@@ -1,65 +1,236 @@
--- This project's own: the statuses of the program, and what is written at each.
-use Rattle.std.specs.Prelude.{◌≡◌, ℕ, ◌+◌, ◌<◌, ◌≤◌, ◌⊎◌, List, [], ◌∷◌, ◌++◌, length, take, codes, Option}
-use Rattle.scen_text.specs.declared.scenario.OneFile.{OneFile}
-use Rattle.scen_text.specs.ScenarioText.{Fits, IsText, limit, scenario_of, scenario_text}
-use Rattle.tap_outside.specs.Ends.{Appends, IsAtEnd, Rose, Takes}
+-- This project's own: the statuses of the program, and what is read and written at each.
+use Rattle.std.specs.Prelude.{◌≡◌, ℕ, ◌+◌, ◌<◌, ◌≤◌, ◌⊎◌, Bool, true, false, not, if◌then◌else◌, List, [], ◌∷◌, ◌++◌, length, take, codes, Option, None, Some}
+use Rattle.std.specs.Fmt.{decimal}
+use Rattle.std.specs.Io.KnownBytes.{Appends, Consumes, IsAtEnd}
+use Rattle.scen_text.specs.declared.fault.ScenFault.{ScenFault}
+use Rattle.scen_text.specs.declared.fault.Why.{Why}
+use Rattle.scen_text.specs.declared.fault.Why.TheVariants as why
+use Rattle.scen_text.specs.declared.scenario.Phase.{Phase}
+use Rattle.scen_text.specs.declared.scenario.Scenario.{Scenario}
+use Rattle.scen_text.specs.Field.{line}
+use Rattle.scen_text.specs.Why.{why_number}
+use Rattle.scen_text.specs.Limits.{byte_limit}
+use Rattle.scen_text.specs.Scenario.{IsRefusal, Stands}
+use Rattle.scen_text.specs.ScenarioText.{scenario_text}
+use Rattle.tap_outside.specs.Ends.{one_more}
 use Rattle.tap_top.specs.Headline.{InOrder, OneFate}
-use Rattle.tap_top.specs.Output.{output_of}
+use Rattle.tap_top.specs.OneFile.{OneFile, is_empty, one_file_of}
+use Rattle.tap_top.specs.Output.{empty_output, output_of}
+use Rattle.ebpf_code.specs.Faults.{number}
+use Rattle.guest_mem.specs.Regions.{number_of_fault}
+use Rattle.tap_top.specs.declared.refusal.Further.{Further}
+use Rattle.tap_top.specs.declared.refusal.Further.TheVariants.{Nothing, Fault, Place}
+use Rattle.tap_words.specs.Words.{asks}
+use Rattle.tap_words.specs.declared.request.Request.{Request}
+use Rattle.tap_words.specs.declared.request.Request.TheVariants.{Check, Plain, Live, Audit, Gen, Upgrade}
 
--- the words, as their bytes, ask for a run on one thread
-abbrev pub IsPlain : List (List ℕ) → Type 0
-IsPlain words = words ≡ codes "plain" ∷ []
+-- ---- the words
+
+-- What is asked for is built: a check, an upgrade and a run on one thread, but not its report in JSON; nor a run on
+-- many threads, nor the judge, nor the generator.
+abbrev pub is_built : Request → Bool
+is_built Check = true
+is_built (Plain seed json) = not json
+is_built (Live json) = false
+is_built Audit = false
+is_built (Gen count) = false
+is_built Upgrade = true
+
+abbrev pub built : Option Request → Option Request
+built None = None
+built (Some request) = if is_built request then Some request else None
+
+-- what the words, as their bytes, ask for, where it is built
+abbrev pub served : List (List ℕ) → Option Request
+served words = built (asks words)
 
 -- ---- the lines of a refusal
 
 abbrev pub usage_line : List ℕ
-usage_line = codes "usage: tapsim check | plain [--seed N] [--json] | live [--json] | audit | gen N" ++ 10 ∷ []
+usage_line =
+    codes "usage: tapsim check | plain [--seed N] [--json] | live [--json] | audit | gen N | upgrade" ++ 10 ∷ []
 
-abbrev pub too_long_line : List ℕ
-too_long_line = codes "refused 0 1" ++ 10 ∷ []
+-- the further numbers of a refusal: which region fault; which fault of a program, and its place
+abbrev pub further_of : Why → Further
+further_of (why.Region fault) = Fault (number_of_fault fault)
+further_of (why.Program fault) = Place (number fault.why) fault.place
+further_of other = Nothing
 
-abbrev pub not_yet_line : List ℕ
-not_yet_line = codes "refused 0 15" ++ 10 ∷ []
+abbrev pub further_fields : Further → List (List ℕ)
+further_fields Nothing = []
+further_fields (Fault n) = decimal n ∷ []
+further_fields (Place n place) = decimal n ∷ decimal place ∷ []
 
--- ---- what is to be written
+-- `refused LINE WHY`, and the further numbers
+unfoldable pub refusal_with : ℕ → ℕ → Further → List ℕ
+refusal_with at why further = line (codes "refused" ∷ decimal at ∷ decimal why ∷ further_fields further)
 
--- the input is the text of a run on one file, within the limit
-pub record IsRunOf (input : List ℕ) (file : OneFile) : Type 0 where
-  pub within : length input ≤ limit
-  pub fits : Fits file
-  pub is_text : input ≡ scenario_text (scenario_of file)
+abbrev pub refusal_line : ScenFault → List ℕ
+refusal_line fault = refusal_with fault.line (why_number fault.why) (further_of fault.why)
 
--- the status and the text for a scenario: trace and report at 0, or at 2 the line of the first refusal
-pub data IsReply (input : List ℕ) (status : ℕ) (text : List ℕ) : Type 0 where
-  Done : (file : OneFile) → IsRunOf input file → status ≡ 0 → text ≡ output_of file → IsReply input status text
-  TooLong : limit < length input → status ≡ 2 → text ≡ too_long_line → IsReply input status text
-  NotYet : length input ≤ limit → (IsText input → ⊥) → status ≡ 2 → text ≡ not_yet_line → IsReply input status text
+-- `refused 0 15`, this program's own: a good scenario that isn't run so far
+unfoldable pub not_built_line : List ℕ
+not_built_line = codes "refused 0 15" ++ 10 ∷ []
 
--- the status and the text where nothing fails: the usage line at 1 for other words, or the reply to the scenario
+-- ---- what is wanted of a good scenario
+
+abbrev pub command_count : List Phase → ℕ
+command_count [] = 0
+command_count (p ∷ ps) = length p.lines + command_count ps
+
+-- `ok N`, N the number of commands
+unfoldable pub count_line : ℕ → List ℕ
+count_line n = line (codes "ok" ∷ decimal n ∷ [])
+
+-- the same scenario in version 2
+abbrev pub upgraded : Scenario → Scenario
+upgraded s = record s { version = 2 }
+
+-- a run on one file, or an empty scenario; another isn't run so far
+abbrev pub plain_text : Option OneFile → Bool → List ℕ
+plain_text (Some file) empty = output_of file
+plain_text None true = empty_output
+plain_text None false = not_built_line
+
+abbrev pub plain_status : Option OneFile → Bool → ℕ
+plain_status (Some file) empty = 0
+plain_status None true = 0
+plain_status None false = 2
+
+-- the text for a scenario, and its status
+abbrev pub text_for : Request → Scenario → List ℕ
+text_for Check s = count_line (command_count s.phases)
+text_for (Plain seed json) s = plain_text (one_file_of s) (is_empty s)
+text_for Upgrade s = scenario_text (upgraded s)
+text_for unbuilt s = []
+
+abbrev pub status_for : Request → Scenario → ℕ
+status_for (Plain seed json) s = plain_status (one_file_of s) (is_empty s)
+status_for other s = 0
+
+-- the headline: in a run on one file each accepted frame has one fate, and frames leave in the order placed
+abbrev pub Headline : Scenario → Type 0
+Headline s = (file : OneFile) → one_file_of s ≡ Some file → OneFate file × InOrder file
+
+-- ---- what is wanted
+
+-- what is wanted of an input, with its status: of a good scenario, or at 2 the line of the first refusal
+pub data IsReply (request : Request) (input : List ℕ) (status : ℕ) (text : List ℕ) : Type 0 where
+  Good : (s : Scenario) → Stands input s → Headline s → text ≡ text_for request s → status ≡ status_for request s
+      → IsReply request input status text
+  Refused : (fault : ScenFault) → IsRefusal input fault → text ≡ refusal_line fault → status ≡ 2
+      → IsReply request input status text
+
+-- what is wanted for words and an input: the usage line at 1 for other words, or the reply
 pub data IsWanted (words : List (List ℕ)) (input : List ℕ) (status : ℕ) (text : List ℕ) : Type 0 where
-  Usage : (IsPlain words → ⊥) → status ≡ 1 → text ≡ usage_line → IsWanted words input status text
-  Reply : IsPlain words → IsReply input status text → IsWanted words input status text
+  Usage : served words ≡ None → text ≡ usage_line → status ≡ 1 → IsWanted words input status text
+  Reply : (request : Request) → served words ≡ Some request → IsReply request input status text
+      → IsWanted words input status text
 
--- a front of the text was written
-abbrev pub WritesFront : Option (List ℕ) → Option (List ℕ) → List ℕ → Type 0
-WritesFront old new text = (n : ℕ) × Appends old new (take n text)
+-- ---- the source
 
--- all of the line was written, or a front of it and the sink's count of faults rose
-abbrev pub WritesLine : Option (List ℕ) → Option (List ℕ) → ℕ → ℕ → List ℕ → Type 0
-WritesLine old new before now text = Appends old new text ⊎ (WritesFront old new text × Rose before now)
+-- a source before and after a call: the bytes left, where it tells them, and its count of faults
+pub record Source : Type 0 where
+  pub left : Option (List ℕ)
+  pub left_now : Option (List ℕ)
+  pub faults : ℕ
+  pub faults_now : ℕ
+
+abbrev pub source_between : Option (List ℕ) → Option (List ℕ) → ℕ → ℕ → Source
+source_between left left_now faults faults_now =
+    record { left = left; left_now = left_now; faults = faults; faults_now = faults_now }
 
 -- at most one byte more than the limit was taken
-abbrev pub TakesToLimit : Option (List ℕ) → Option (List ℕ) → Type 0
-TakesToLimit old new = (bytes : List ℕ) × Takes old new bytes × (length bytes ≤ limit + 1)
+pub record TakesToLimit (source : Source) (bytes : List ℕ) : Type 0 where
+  pub taken : Consumes source.left source.left_now bytes
+  pub few : length bytes ≤ byte_limit + 1
 
--- ---- success
+-- all of the input was taken, or its front, where this is longer than the limit
+pub record TakesInput (source : Source) (input : List ℕ) : Type 0 where
+  pub to_limit : TakesToLimit source input
+  pub whole : IsAtEnd source.left_now ⊎ (byte_limit < length input)
 
--- The source was read to its end, its bytes are the text of a run on one file, and what was written are trace and report of that run,
--- in which each accepted frame has one fate and frames leave in the order placed.
-pub record Succeeds (input : List ℕ) (left old new : Option (List ℕ)) : Type 0 where
-  pub to_the_end : IsAtEnd left
-  pub file : OneFile
-  pub run : IsRunOf input file
-  pub written : Appends old new (output_of file)
-  pub one_fate : OneFate file
-  pub in_order : InOrder file
+-- what the words have read: nothing, where they ask for no command, and the source is untouched; or the input
+pub data Reads (words : List (List ℕ)) (source : Source) (untouched : Type 0) (input : List ℕ) : Type 0 where
+  Untouched : served words ≡ None → untouched → Reads words source untouched input
+  Input : (request : Request) → served words ≡ Some request → TakesInput source input
+      → Reads words source untouched input
+
+-- ---- the sink
+
+-- a sink before and after a call: the bytes written, where it tells them, and its count of faults
+pub record Sink : Type 0 where
+  pub written : Option (List ℕ)
+  pub written_now : Option (List ℕ)
+  pub faults : ℕ
+  pub faults_now : ℕ
+
+abbrev pub sink_between : Option (List ℕ) → Option (List ℕ) → ℕ → ℕ → Sink
+sink_between written written_now faults faults_now =
+    record { written = written; written_now = written_now; faults = faults; faults_now = faults_now }
+
+-- all of the text was written, and no write failed
+pub record Writes (sink : Sink) (text : List ℕ) : Type 0 where
+  pub written : Appends sink.written sink.written_now text
+  pub no_fault : sink.faults_now ≡ sink.faults
+
+-- a front of the text was written
+abbrev pub WritesFront : Sink → List ℕ → Type 0
+WritesFront sink text = (n : ℕ) × Appends sink.written sink.written_now (take n text)
+
+-- a front of the text was written, and then one write failed
+pub record Breaks (sink : Sink) (text : List ℕ) : Type 0 where
+  pub front : WritesFront sink text
+  pub fault : sink.faults_now ≡ one_more sink.faults
+
+-- a front of the text was written, and then memory ran out
+pub record Stops (sink : Sink) (text : List ℕ) : Type 0 where
+  pub front : WritesFront sink text
+  pub no_fault : sink.faults_now ≡ sink.faults
+
+-- all of a line was written, or a front of it and then a write failed
+abbrev pub WritesLine : Sink → List ℕ → Type 0
+WritesLine sink text = Writes sink text ⊎ Breaks sink text
+
+-- ---- the call
+
+-- some input was read, and what is wanted of it at this status was written in this way
+pub record Answers (words : List (List ℕ)) (source : Source) (untouched : Type 0) (status : ℕ)
+    (written : List ℕ → Type 0) : Type 0 where
+  pub input : List ℕ
+  pub text : List ℕ
+  pub read : Reads words source untouched input
+  pub wanted : IsWanted words input status text
+  pub write : written text
+
+-- What a call of the program did, by its status. `untouched` and `silent` say that source and sink are the values that
+-- they were, `tame` and `reliable` that they don't fail. Where the source tells its bytes, 0 and 2 come exactly where
+-- they are wanted.
+pub record Ended (words : List (List ℕ)) (source : Source) (sink : Sink)
+    (untouched silent tame reliable : Type 0) (status : ℕ) : Type 0 where
+  -- 0, done: all of a wanted text was written
+  pub done : status ≡ 0 → Answers words source untouched 0 (Writes sink)
+  -- 1, other words: exactly then; the source isn't read, and the usage line is written
+  pub usage : status ≡ 1 → (served words ≡ None) × untouched × WritesLine sink usage_line
+  pub usage_only : (served words ≡ None) → (status ≡ 1) ⊎ (status ≡ 5)
+  -- 2, refused: the line of the first refusal is written
+  pub refused : status ≡ 2 → Answers words source untouched 2 (WritesLine sink)
+  pub refused_only : (input text : List ℕ) → source.left ≡ Some input → IsWanted words input 2 text
+      → (status ≡ 2) ⊎ ((status ≡ 3) ⊎ (status ≡ 5))
+  -- 3, the source failed: exactly where a read failed, which ends the reading; nothing is written
+  pub source_failed : status ≡ 3 → (source.faults_now ≡ one_more source.faults) × silent
+  pub no_read_failed : (status ≡ 3 → ⊥) → source.faults_now ≡ source.faults
+  pub ends_well : tame → status ≡ 3 → ⊥
+  -- 4, the sink failed: a front of the text of status 0 was written
+  pub sink_failed : status ≡ 4 → Answers words source untouched 0 (Breaks sink)
+  pub no_write_failed : reliable → (status ≡ 4 → ⊥) × (sink.faults_now ≡ sink.faults)
+  -- 5, out of memory: before anything was written, or behind a front of what is wanted
+  pub out_of_memory : status ≡ 5 → silent ⊎ ((wanted : ℕ) × Answers words source untouched wanted (Stops sink))
+  -- no other
+  pub statuses : status ≤ 5
+  -- at every status: at most one byte more than the limit is taken
+  pub taken : (bytes : List ℕ) × TakesToLimit source bytes
+  -- what is good is done, where no call fails
+  pub complete : (input text : List ℕ) → source.left ≡ Some input → IsWanted words input 0 text
+      → (source.faults_now ≡ one_more source.faults → ⊥) → (sink.faults_now ≡ one_more sink.faults → ⊥)
+      → (status ≡ 0) ⊎ (status ≡ 5)

@@ -1,9 +1,10 @@
 //! Reading a source to its end, and writing a text to a sink.
 
-ghost use Rattle.std.specs.Prelude.{◌≡◌, ℕ, ◌<◌, ◌≤◌, ◌⊎◌, List, length, take, IfOk, OnOk, IsErrOf};
-ghost use Rattle.scen_text.specs.ScenarioText.{limit};
-ghost use Rattle.tap_outside.specs.Ends.{Appends, IsAtEnd, Rose, Takes};
-ghost use Rattle.tap_top.specs.Course.{Passes, PassesToLimit, ReadsPiece};
+ghost use Rattle.std.specs.Prelude.{◌≡◌, ℕ, ◌<◌, ◌≤◌, List, [], length, IfOk, OnOk, IsErrOf};
+ghost use Rattle.std.specs.Io.KnownBytes.{Consumes};
+ghost use Rattle.tap_outside.specs.Ends.{one_more};
+ghost use Rattle.tap_top.specs.Course.{ReadFails, ReadsPiece, ReadsWell};
+ghost use Rattle.tap_top.specs.Top.{Breaks, Stops, TakesInput, Writes, sink_between, source_between};
 ghost use Rattle.tap_top.specs.declared.ends.ReadError.TheVariants.{NoMemory, SourceFailed};
 
 use std::alloc::{AllocError, Global};
@@ -47,10 +48,15 @@ fn read_piece<S: Source>(
     bytes: &mut Vec<u8>,
 ) -> Result<usize, ReadError>
     requires { 0 < length room.old }
-    ensures passes { (piece : List ℕ) × Passes (Takes (S.left source.old) (S.left source.new)) (S.faults source.old) (S.faults source.new)
-        (S.is_reliable source.old) (S.is_reliable source.new) piece × (length piece ≤ length room.old)
-        × IfOk result (λ n. ReadsPiece (S.left source.new) bytes.old.items bytes.new.items n piece) }
-    ensures failed { IsErrOf result ReadError.SourceFailed → Rose (S.faults source.old) (S.faults source.new) }
+    ensures read { IfOk result (ReadsPiece (S.left source.old) (S.left source.new)
+        bytes.old.items bytes.new.items (length room.old)) }
+    ensures no_fault { OnOk result (S.faults source.new ≡ S.faults source.old) }
+    ensures well { S.ends_well source.old → IfOk result (λ n. 0 < n → S.ends_well source.new) }
+    ensures failed { IsErrOf result ReadError.SourceFailed → Consumes (S.left source.old) (S.left source.new) []
+        × (S.faults source.new ≡ one_more (S.faults source.old)) × (S.ends_well source.old → ⊥) }
+    ensures no_memory { IsErrOf result ReadError.NoMemory → (piece : List ℕ)
+        × Consumes (S.left source.old) (S.left source.new) piece × (length piece ≤ length room.old)
+        × (S.faults source.new ≡ S.faults source.old) }
 {
     let n = source.read(room)?;
     bytes.extend_from_slice(&room[..n])?;
@@ -59,12 +65,15 @@ fn read_piece<S: Source>(
 
 /// The bytes of the source up to its end, or up to one byte more than the limit of a scenario.
 pub fn read_all<S: Source>(alloc: Global, source: &mut S) -> Result<Vec<u8>, ReadError>
-    ensures passes { (bytes : List ℕ) × PassesToLimit (Takes (S.left source.old) (S.left source.new)) (S.faults source.old) (S.faults source.new)
-        (S.is_reliable source.old) (S.is_reliable source.new) bytes }
-    ensures bytes { IfOk result (λ bytes. PassesToLimit (Takes (S.left source.old) (S.left source.new)) (S.faults source.old) (S.faults source.new)
-        (S.is_reliable source.old) (S.is_reliable source.new) bytes.items) }
-    ensures end { IfOk result (λ bytes. IsAtEnd (S.left source.new) ⊎ (limit < length bytes.items)) }
-    ensures failed { IsErrOf result ReadError.SourceFailed → Rose (S.faults source.old) (S.faults source.new) }
+    ensures input { IfOk result (λ bytes. TakesInput
+        (source_between (S.left source.old) (S.left source.new)
+        (S.faults source.old) (S.faults source.new)) bytes.items) }
+    ensures no_fault { OnOk result (S.faults source.new ≡ S.faults source.old) }
+    ensures failed { IsErrOf result ReadError.SourceFailed → ReadFails (source_between
+        (S.left source.old) (S.left source.new) (S.faults source.old) (S.faults source.new)) (S.ends_well source.old) }
+    ensures no_memory { IsErrOf result ReadError.NoMemory → (bytes : List ℕ)
+        × ReadsWell (source_between (S.left source.old) (S.left source.new)
+        (S.faults source.old) (S.faults source.new)) bytes }
 {
     let mut room = vec![in alloc; 0u8; PIECE]?;
     let mut bytes = Vec::new(alloc);
@@ -79,10 +88,13 @@ pub fn read_all<S: Source>(alloc: Global, source: &mut S) -> Result<Vec<u8>, Rea
 
 /// Writes all of the text, in as many pieces as the sink takes.
 pub fn write_all<K: Sink>(sink: &mut K, text: &[u8]) -> Result<(), SinkErr>
-    ensures passes { (n : ℕ) × Passes (Appends (K.written sink.old) (K.written sink.new)) (K.faults sink.old) (K.faults sink.new)
-        (K.is_reliable sink.old) (K.is_reliable sink.new) (take n text.now) }
-    ensures all { OnOk result (Appends (K.written sink.old) (K.written sink.new) text.now) }
-    ensures failed { IsErrOf result SinkErr.Failed → Rose (K.faults sink.old) (K.faults sink.new) }
+    ensures all { OnOk result (Writes
+        (sink_between (K.written sink.old) (K.written sink.new) (K.faults sink.old) (K.faults sink.new)) text.now) }
+    ensures failed { IsErrOf result SinkErr.Failed → Breaks
+        (sink_between (K.written sink.old) (K.written sink.new) (K.faults sink.old) (K.faults sink.new)) text.now
+        × (K.is_reliable sink.old → ⊥) }
+    ensures no_memory { IsErrOf result SinkErr.NoMemory → Stops
+        (sink_between (K.written sink.old) (K.written sink.new) (K.faults sink.old) (K.faults sink.new)) text.now }
 {
     let mut done = 0;
     while done < text.len() {

@@ -16,7 +16,9 @@ mod lines;
 mod output;
 mod parts;
 mod placed;
+mod refusal;
 mod running;
+mod serving;
 #[cfg(test)]
 mod tests;
 mod top;

@@ -1,7 +1,7 @@
 //! The lines of a trace for the frames of a file.
 
 ghost use Rattle.std.specs.Prelude.{◌≡◌, IfOk, nat_lt, if◌then◌else◌};
-ghost use Rattle.scen_text.specs.declared.fate.Fate.TheVariants as fate;
+ghost use Rattle.tap_ledger.specs.declared.fate.Fate.TheVariants as fate;
 ghost use Rattle.tap_top.specs.Engine.{lines_from};
 
 use crate::placed::Placed;

@@ -1,14 +1,13 @@
 //! The trace and the report of a run, and their text.
 
-ghost use Rattle.std.specs.Prelude.{◌≡◌, ◌+◌, ◌<◌, ◌^◌, ◌++◌, ◌∷◌, [], List, OnOk, IfOk, string_bytes, count_by, length};
-ghost use Rattle.scen_text.specs.declared.scenario.OneFile.{OneFile as Parts};
+ghost use Rattle.std.specs.Prelude.{◌≡◌, ◌+◌, ◌<◌, ◌^◌, ◌++◌, ◌∷◌, [], List, OnOk, IfOk, string_bytes, option_map, count_by, length};
 ghost use Rattle.scen_text.specs.declared.trace.OpText.TheVariants.{SetIff as Attach};
 ghost use Rattle.scen_text.specs.Field.{line, text};
-ghost use Rattle.scen_text.specs.ScenarioText.{Fits, IsOneFile, all_commands, scenario_of};
-ghost use Rattle.tap_top.specs.Output.{device_fields, file_fields, total_fields, output_with, drops, is_drop, output_of, place_lines, report_lines, trace_with};
+ghost use Rattle.tap_top.specs.OneFile.{one_file_of};
+ghost use Rattle.tap_top.specs.Output.{device_fields, file_fields, total_fields, output_with, drops, is_drop, empty_output, output_of, place_lines, report_lines, trace_with};
 ghost use Rattle.tap_top.specs.Run.{Entry, reads, waiting};
 
-use crate::parts::{capacity_of, commands_of, name_of};
+use crate::parts::{capacity_in, commands_in, name_in};
 use crate::running::{Outcome, run};
 use scen_text::{
     Answer, AnswerLine, Command, FilePart, OpLine, OpText, PhasePart, Scenario, Text, Trace,
@@ -17,6 +16,9 @@ use scen_text::{
 use sqlite_items::Items;
 use std::alloc::{AllocError, Global};
 use std::fmt::Write;
+
+/// Nothing happened.
+const EMPTY: &str = "taptrace 1\nend\nreport\ntotal accepted 0 waiting 0 delivered 0 discarded 0\n";
 
 /// How many answers say that a frame was dropped.
 fn drops(answers: &[AnswerLine]) -> usize
@@ -66,7 +68,8 @@ fn put_report(
     dropped: u64,
 ) -> Result<(), AllocError>
     requires { waiting + read + dropped < 2 ^ 64 }
-    ensures { OnOk result (string_bytes out.new ≡ string_bytes out.old ++ text (report_lines name.now waiting read dropped)) }
+    ensures { OnOk result (string_bytes out.new
+        ≡ string_bytes out.old ++ text (report_lines name.now waiting read dropped)) }
 {
     out.push_str("report\n")?;
     put_device(out, name, read, dropped)?;
@@ -136,15 +139,26 @@ fn output_on(
     Ok(out)
 }
 
-/// The trace and the report of the run of a scenario.
-pub fn output_of(alloc: Global, scenario: &Scenario) -> Result<String, AllocError>
-    requires { IsOneFile scenario.now }
-    ensures { (f : Parts) → scenario.now ≡ scenario_of f → IfOk result (λ out. string_bytes out ≡ output_of f) }
+/// The trace and the report of a scenario that is a run on one file, or none.
+pub fn output_of(alloc: Global, scenario: &Scenario) -> Result<Option<String>, AllocError>
+    ensures { IfOk result (λ out. option_map string_bytes out
+        ≡ option_map output_of (one_file_of scenario.now)) }
 {
-    output_on(
-        alloc,
-        capacity_of(scenario),
-        name_of(scenario),
-        commands_of(scenario),
-    )
+    let capacity = capacity_in(scenario.declarations.as_slice());
+    let name = name_in(scenario.names.as_slice());
+    let commands = commands_in(scenario.phases.as_slice());
+    match (capacity, name, commands) {
+        (Some(capacity), Some(name), Some(commands)) => {
+            Ok(Some(output_on(alloc, capacity, name.as_str(), commands)?))
+        }
+        _ => Ok(None),
+    }
+}
+
+/// What is written for a scenario without declarations and phases.
+#[tactic(auto, unfolding(crate::specs::Output::empty_output))]
+pub fn empty_output(alloc: Global) -> Result<String, AllocError>
+    ensures { IfOk result (λ out. string_bytes out ≡ empty_output) }
+{
+    String::from_str(alloc, EMPTY)
 }

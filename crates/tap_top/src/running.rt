@@ -1,7 +1,7 @@
 //! A run of commands on one file.
 
 ghost use Rattle.std.specs.Prelude.{◌≡◌, ◌^◌, ◌<◌, [], List, length, IfOk};
-ghost use Rattle.tap_top.specs.Engine.{Keeps};
+ghost use Rattle.tap_top.specs.Engine.{IsKept};
 ghost use Rattle.tap_top.specs.Output.{place_lines};
 ghost use Rattle.tap_top.specs.Run.{Entry, answer_to, answers, line_after, line_of, reads};
 
@@ -24,15 +24,16 @@ fn answer(
     number: u32,
     command: &Command,
 ) -> Result<Answer, AllocError>
-    ensures answered { (line : List Entry) → Keeps engine.old.waiting.items engine.old.placed.items engine.old.read line → IfOk result (λ answer.
+    ensures answered { (line : List Entry) → IsKept engine.old line → IfOk result (λ answer.
         (answer ≡ answer_to engine.old.capacity command.now line)
-        × Keeps engine.new.waiting.items engine.new.placed.items engine.new.read (line_after engine.old.capacity number command.now line)) }
+        × IsKept engine.new (line_after engine.old.capacity number command.now line)) }
     ensures capacity { engine.new.capacity ≡ engine.old.capacity }
 {
     match command {
-        Command::SetIff { .. } => Ok(Answer::Version(1)),
         Command::Send { bytes, .. } => engine.send(alloc, number, bytes.as_slice()),
         Command::Read { room, .. } => engine.read(alloc, *room),
+        // The attachment; a run on one file has no other command.
+        _ => Ok(Answer::Version(1)),
     }
 }
 
@@ -42,10 +43,9 @@ fn answers(
     commands: &[Command],
 ) -> Result<Items<AnswerLine>, AllocError>
     requires few { length commands.now < 2 ^ 32 }
-    requires fresh { Keeps engine.old.waiting.items engine.old.placed.items engine.old.read [] }
+    requires fresh { IsKept engine.old [] }
     ensures answers { IfOk result (λ all. all ≡ answers engine.old.capacity 0 commands.now []) }
-    ensures line { IfOk result (λ _. Keeps engine.new.waiting.items engine.new.placed.items engine.new.read
-        (line_of engine.old.capacity 0 commands.now [])) }
+    ensures line { IfOk result (λ _. IsKept engine.new (line_of engine.old.capacity 0 commands.now [])) }
 {
     let mut all = Items::new(alloc);
     for (number, command) in commands.iter().enumerate() {
@@ -63,7 +63,7 @@ fn answers(
 
 fn run_on(alloc: Global, engine: &mut Engine, commands: &[Command]) -> Result<Outcome, AllocError>
     requires few { length commands.now < 2 ^ 32 }
-    requires fresh { Keeps engine.old.waiting.items engine.old.placed.items engine.old.read [] }
+    requires fresh { IsKept engine.old [] }
     ensures answers { IfOk result (λ o. o.answers ≡ answers engine.old.capacity 0 commands.now []) }
     ensures lines { IfOk result (λ o. o.lines ≡ place_lines 0 (line_of engine.old.capacity 0 commands.now [])) }
     ensures read { IfOk result (λ o. o.read ≡ reads (line_of engine.old.capacity 0 commands.now [])) }
@@ -73,7 +73,7 @@ fn run_on(alloc: Global, engine: &mut Engine, commands: &[Command]) -> Result<Ou
     Ok(Outcome {
         answers,
         lines,
-        read: engine.read as u64,
+        read: engine.reads(),
     })
 }
 

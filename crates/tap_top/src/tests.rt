@@ -29,28 +29,64 @@ const ONE_LEFT_RUN: &str = "taptrace 1\nphase 0 1\nop 1 0 setiff 0 tap0 1102\nan
     total accepted 2 waiting 1 delivered 1 discarded 0\n";
 
 const USAGE: &str =
-    "usage: tapsim check | plain [--seed N] [--json] | live [--json] | audit | gen N\n";
+    "usage: tapsim check | plain [--seed N] [--json] | live [--json] | audit | gen N | upgrade\n";
 
-/// Words that are not `plain`.
-const OTHER_WORDS: [&[&str]; 3] = [&[], &["plain", "plain"], &["live"]];
-
-/// Texts that are no scenario: empty; without the last LF; with a CR; with bytes above 0x7e; with an odd number
-/// of digits; with an upper-case digit; with a number that begins with 0; with 0 and 1,025 places; with room for
-/// 131,073 bytes; with a second file.
-const REFUSED: [&str; 12] = [
-    "",
-    "tapscen 1\nfile 0 1\nsetiff 0 tap0 1102\nread 0 1",
-    "tapscen 1\nfile 0 1\nsetiff 0 tap0 1102\r\nread 0 1\n",
-    "tapscen 1\nfile 0 1\nsetiff 0 tap\x7f 1102\nread 0 1\n",
-    "tapscen 1\nfile 0 1\nsetiff 0 tap\u{e9} 1102\nread 0 1\n",
-    "tapscen 1\nfile 0 1\nsetiff 0 tap0 1102\nsend tap0 - 020000000001020000000002080\n",
-    "tapscen 1\nfile 0 1\nsetiff 0 tap0 1102\nsend tap0 - 0200000000010200000000020A00\n",
-    "tapscen 1\nfile 0 01\nsetiff 0 tap0 1102\nread 0 1\n",
-    "tapscen 1\nfile 0 0\nsetiff 0 tap0 1102\nread 0 1\n",
-    "tapscen 1\nfile 0 1025\nsetiff 0 tap0 1102\nread 0 1\n",
-    "tapscen 1\nfile 0 1\nsetiff 0 tap0 1102\nread 0 131073\n",
-    "tapscen 1\nfile 0 1\nfile 1 1\nsetiff 0 tap0 1102\nread 0 1\n",
+/// Words that don't ask for a run on one thread.
+const OTHER_WORDS: [&[&str]; 4] = [
+    &[],
+    &["plain", "plain"],
+    &["live"],
+    &["plain", "--seed", "3", "--seed", "3"],
 ];
+
+/// Texts that are refused, with their lines: empty; with a CR; with bytes above 0x7e; with an odd number of digits;
+/// with an upper-case digit; with a number that begins with 0; with 0 and 1,025 places; with room for 131,073 bytes;
+/// with a limit of no flows; and one that is good and isn't run so far, with a second file.
+const REFUSED: [(&str, &str); 12] = [
+    ("", "refused 1 3\n"),
+    (
+        "tapscen 1\nfile 0 1\nsetiff 0 tap0 1102\r\nread 0 1\n",
+        "refused 3 2\n",
+    ),
+    (
+        "tapscen 1\nfile 0 1\nsetiff 0 tap\x7f 1102\nread 0 1\n",
+        "refused 3 2\n",
+    ),
+    (
+        "tapscen 1\nfile 0 1\nsetiff 0 tap\u{e9} 1102\nread 0 1\n",
+        "refused 3 2\n",
+    ),
+    (
+        "tapscen 1\nfile 0 1\nsetiff 0 tap0 1102\nsend tap0 - 020000000001020000000002080\n",
+        "refused 4 7\n",
+    ),
+    (
+        "tapscen 1\nfile 0 1\nsetiff 0 tap0 1102\nsend tap0 - 0200000000010200000000020A00\n",
+        "refused 4 7\n",
+    ),
+    ("tapscen 1\nfile 0 01\n", "refused 2 6\n"),
+    ("tapscen 1\nfile 0 0\n", "refused 2 6\n"),
+    ("tapscen 1\nfile 0 1025\n", "refused 2 6\n"),
+    (
+        "tapscen 1\nfile 0 1\nsetiff 0 tap0 1102\nread 0 131073\n",
+        "refused 4 6\n",
+    ),
+    ("tapscen 2\nflows tap0 0 1000\n", "refused 2 6\n"),
+    (
+        "tapscen 1\nfile 0 1\nfile 1 1\nsetiff 0 tap0 1102\nread 0 1\n",
+        "refused 0 15\n",
+    ),
+];
+
+/// An empty scenario, and what is written for it.
+const EMPTY: &str = "tapscen 1\n";
+
+const EMPTY_RUN: &str =
+    "taptrace 1\nend\nreport\ntotal accepted 0 waiting 0 delivered 0 discarded 0\n";
+
+/// Two sends in version 2.
+const UPGRADED: &str = "tapscen 2\nfile 0 1\nsetiff 0 tap0 1102\n\
+    send tap0 - 0200000000010200000000020800\nsend tap0 - 0200000000010200000000020800\nread 0 100\n";
 
 /// The status of a run, and the sink that it wrote to.
 #[derive(Drop)]
@@ -91,9 +127,15 @@ fn reads(alloc: Global, count: u32) -> Result<Vec<u8>, Fail> {
 
 #[test]
 fn writes_trace_and_report(rt: HostRuntime) -> Result<(), Fail> {
-    for (input, want) in [(TWO_SENDS, TWO_SENDS_RUN), (ONE_LEFT, ONE_LEFT_RUN)] {
+    for (words, input, want) in [
+        (["plain"].as_slice(), TWO_SENDS, TWO_SENDS_RUN),
+        (&["--seed=3", "plain"], ONE_LEFT, ONE_LEFT_RUN),
+        (&["plain"], EMPTY, EMPTY_RUN),
+        (&["check"], TWO_SENDS, "ok 4\n"),
+        (&["upgrade"], TWO_SENDS, UPGRADED),
+    ] {
         let input = Vec::from_slice(rt.alloc(), input.as_bytes())?;
-        let end = plain(rt.alloc(), &["plain"], input)?;
+        let end = plain(rt.alloc(), words, input)?;
         assert_eq!(rt; end.status, 0);
         assert_eq!(rt; end.sink.bytes(), want.as_bytes());
     }
@@ -113,26 +155,20 @@ fn refuses_other_words(rt: HostRuntime) -> Result<(), Fail> {
 
 #[test]
 fn refuses_bad_texts(rt: HostRuntime) -> Result<(), Fail> {
-    for (row, text) in REFUSED.iter().enumerate() {
+    for (row, (text, want)) in REFUSED.iter().enumerate() {
         let input = Vec::from_slice(rt.alloc(), text.as_bytes())?;
         let end = plain(rt.alloc(), &["plain"], input)?;
         assert_eq!(rt; end.status, 2, "in row {row}");
-        assert_eq!(rt;
-            end.sink.bytes(),
-            b"refused 0 15\n".as_slice(),
-            "in row {row}"
-        );
+        assert_eq!(rt; end.sink.bytes(), want.as_bytes(), "in row {row}");
     }
     Ok(())
 }
 
 #[test]
 fn counts_commands(rt: HostRuntime) -> Result<(), Fail> {
-    let end = plain(rt.alloc(), &["plain"], reads(rt.alloc(), 199_999)?)?;
+    let end = plain(rt.alloc(), &["check"], reads(rt.alloc(), 1_999)?)?;
     assert_eq!(rt; end.status, 0);
-    let end = plain(rt.alloc(), &["plain"], reads(rt.alloc(), 200_000)?)?;
-    assert_eq!(rt; end.status, 2);
-    assert_eq!(rt; end.sink.bytes(), b"refused 0 15\n".as_slice());
+    assert_eq!(rt; end.sink.bytes(), b"ok 2000\n".as_slice());
     Ok(())
 }
 

@@ -1,14 +1,39 @@
 //! The words of the command line.
 
-ghost use Rattle.std.specs.Prelude.{◌↔◌, IsTrue, map, string_bytes};
-ghost use Rattle.tap_top.specs.Top.{IsPlain};
+ghost use Rattle.std.specs.Prelude.{◌≡◌, IfOk, map, string_bytes};
+ghost use Rattle.tap_top.specs.Top.{built, is_built, served};
 
-/// Whether the words ask for a run on one thread.
-pub fn is_plain(words: &[String]) -> bool
-    ensures { IsTrue result ↔ IsPlain (map string_bytes words.now) }
+use std::alloc::{AllocError, Global};
+use tap_words::{Request, request_of};
+
+fn is_built(request: &Request) -> bool
+    ensures { result ≡ is_built request.now }
 {
-    match words {
-        [word] => word.as_str() == "plain",
-        _ => false,
+    match request {
+        Request::Check | Request::Upgrade => true,
+        Request::Plain { json, .. } => !*json,
+        Request::Live { .. } | Request::Audit | Request::Gen { .. } => false,
     }
+}
+
+fn built(request: Option<Request>) -> Option<Request>
+    ensures { result ≡ built request }
+{
+    match request {
+        Some(request) => {
+            if is_built(&request) {
+                Some(request)
+            } else {
+                None
+            }
+        }
+        None => None,
+    }
+}
+
+/// What the words ask for, where it is built.
+pub fn served(alloc: Global, words: &[String]) -> Result<Option<Request>, AllocError>
+    ensures { IfOk result (λ request. request ≡ served (map string_bytes words.now)) }
+{
+    Ok(built(request_of(alloc, words)?))
 }

@@ -1,6 +1,5 @@
-use Rattle.std.proofs.Common.{◌-◌, ◌≤◌, length, take}
-use Rattle.tap_outside.specs.Ends.{Appends}
-use Rattle.tap_top.specs.Course.{Passes}
+use Rattle.std.proofs.Common.{◌≡◌, ◌-◌, ◌≤◌, length, take}
+use Rattle.std.specs.Io.KnownBytes.{Appends}
 use Rattle.tap_top.proofs.ends.write_all.Given as goal
 
 abbrev pub invariant-loop-done : goal.invariant-loop-done
@@ -10,7 +9,9 @@ invariant-loop-done g l =
     let reliable = g.K.Sink.is_reliable in
     record {
       within : l.done ≤ length l.text;
-      so_far : Passes (Appends (written l.fn.sink) (written l.sink)) (faults l.fn.sink) (faults l.sink) (reliable l.fn.sink) (reliable l.sink) (take l.done l.text);
+      so_far : Appends (written l.fn.sink) (written l.sink) (take l.done l.text);
+      no_fault : faults l.sink ≡ faults l.fn.sink;
+      reliable : reliable l.fn.sink → reliable l.sink;
     }
 
 abbrev pub decreases-loop-done : goal.decreases-loop-done

@@ -1,5 +1,5 @@
 use Rattle.std.proofs.Common.{[], List, subst, take, ◌∙◌}
-use Rattle.tap_top.specs.Engine.{Keeps}
+use Rattle.tap_top.specs.Engine.{IsKept}
 use Rattle.tap_top.specs.Run.{Entry, line_of}
 use Rattle.tap_top.proofs.Answered.{answers_more, line_more}
 use Rattle.tap_top.proofs.running.answers.Goals as goal
@@ -16,5 +16,5 @@ loop-number-preserved c =
     record {
       capacity_stays = c.in_ok-answer.ensures.capacity ∙ so_far.capacity_stays;
       so_far = answers_more capacity cs i command.result _ c.in_ok-answer.answer c.loop-number.all c.push.new.self c.loop-number-test.true command.is so_far.so_far e.0 c.in_ok-push.ensures.ok;
-      keeps = subst (λ (l : List Entry). Keeps after.waiting.items after.placed.items after.read l) (line_more capacity cs i command.result _ c.loop-number-test.true command.is) e.1;
+      keeps = subst (λ (l : List Entry). IsKept after l) (line_more capacity cs i command.result _ c.loop-number-test.true command.is) e.1;
     }

@@ -1,5 +1,5 @@
 use Rattle.std.proofs.Common.{◌≡◌, [], take}
-use Rattle.tap_top.specs.Engine.{Keeps}
+use Rattle.tap_top.specs.Engine.{IsKept}
 use Rattle.tap_top.specs.Run.{answers, line_of}
 use Rattle.tap_top.proofs.running.answers.Given as goal
 
@@ -9,5 +9,5 @@ invariant-loop-number l =
     record {
       capacity_stays : l.engine.capacity ≡ capacity;
       so_far : l.all ≡ answers capacity 0 (take l.number l.commands) [];
-      keeps : Keeps l.engine.waiting.items l.engine.placed.items l.engine.read (line_of capacity 0 (take l.number l.commands) []);
+      keeps : IsKept l.engine (line_of capacity 0 (take l.number l.commands) []);
     }

@@ -5,9 +5,9 @@ use Rattle.tap_top.proofs.running.run_on.Goals as goal
 pub returns-clause-lines : goal.returns-clause-lines
 returns-clause-lines c =
     let after = c.answers.new.engine in
-    c.in_ok-lines.ensures ∙ lines_are after.waiting.items after.placed.items after.read _ c.in_ok-answers.ensures.line
+    c.in_ok-lines.ensures ∙ lines_are after.frames after.placed after.read _ c.in_ok-answers.ensures.line
 
 pub returns-clause-read : goal.returns-clause-read
 returns-clause-read c =
     let after = c.answers.new.engine in
-    sym (reads_are_counted after.waiting.items after.placed.items after.read _ c.in_ok-answers.ensures.line)
+    c.reads.ensures ∙ sym (reads_are_counted after.frames after.placed after.read _ c.in_ok-answers.ensures.line)

@@ -1,10 +1,15 @@
-use Rattle.std.proofs.Common.{refl, ap, ◌∙◌}
-use Rattle.scen_text.specs.ScenarioText.{scenario_text}
-use Rattle.tap_top.specs.Top.IsReply.{Done}
+use Rattle.std.proofs.lemmas.Result.{IfOk-weaker}
+use Rattle.std.proofs.Common.{refl, rules}
+use Rattle.tap_top.specs.Top.IsReply.{Good, Refused}
+use Rattle.tap_top.proofs.Laws.{in_order, one_fate}
 use Rattle.tap_top.proofs.top.reply_to.Goals as goal
 
-pub returns : goal.returns
-returns c =
-    let e = c.in-Ok.ensures in
-    let file = e.found.0 in
-    Done file.0 (record { within = e.within; fits = file.1; is_text = e.found.1 ∙ ap scenario_text file.2 }) refl (c.in_ok-output_of.ensures file.0 file.2)
+pub returns-in-Ok : goal.returns-in-Ok
+returns-in-Ok c =
+    IfOk-weaker c.serve.result _ _
+    (λ r h. Good c.in-Ok.scenario c.in-Ok.ensures.found (λ file e. (one_fate file, in_order file)) h.text_is h.status_is)
+    c.serve.ensures
+
+pub returns-in_ok-refusal_line-in-Err-Fault : goal.returns-in_ok-refusal_line-in-Err-Fault
+returns-in_ok-refusal_line-in-Err-Fault c =
+    Refused c.in-Err-Fault.fault (rw c.in-Err-Fault.field-0-is at c.in-Err-Fault.ensures.refused) (first_of (cc, search rules)) refl

@@ -1,0 +1,258 @@
+-- What the ways of a run say of its status.
+use Rattle.std.proofs.Common.{◌≡◌, ℕ, ◌<◌, ◌≤◌, ◌⊎◌, inl, inr, ltb, List, ◌++◌, length, Bool, true, false, Option, Some, None, Result, Ok, Err, refl, sym, ap, subst, ◌∙◌, arith}
+use Rattle.std.proofs.lemmas.Bool.{lt-ltb}
+use Rattle.std.proofs.lemmas.List.{append-nil, length-append}
+use Rattle.std.specs.Io.KnownBytes.{Consumes, IsAtEnd}
+use Rattle.std.specs.Result.{result_err}
+use Rattle.scen_text.specs.declared.fault.ScenFault.{ScenFault}
+use Rattle.scen_text.specs.declared.scenario.Scenario.{Scenario}
+use Rattle.scen_text.specs.Limits.{byte_limit}
+use Rattle.scen_text.specs.Refusals.{Said, said_of}
+use Rattle.scen_text.specs.Scenario.{IsRefusal, Stands, scenario_of}
+use Rattle.tap_top.specs.Course.{Course}
+use Rattle.tap_top.specs.Course.Course.{NoMemory, Replied, SourceFailed}
+use Rattle.tap_top.specs.Course.IsSent.{Failed, Lost, OutOfMemory, Whole}
+use Rattle.tap_top.specs.OneFile.{OneFile, is_empty, one_file_of}
+use Rattle.tap_top.specs.Top.{Answers, Ended, IsReply, IsWanted, Reads, Sink, Source, WritesLine, plain_status, served, status_for, usage_line}
+use Rattle.tap_top.specs.Top.IsReply.{Good, Refused}
+use Rattle.tap_top.specs.Top.IsWanted.{Reply, Usage}
+use Rattle.tap_top.specs.Top.Reads.{Input, Untouched}
+use Rattle.tap_words.specs.declared.request.Request.{Request}
+use Rattle.tap_words.specs.declared.request.Request.TheVariants.{Plain}
+
+-- ---- one status is wanted
+
+same_said : (x y : Said) (a : Result Said ScenFault) → a ≡ Ok x → a ≡ Ok y → x ≡ y
+same_said x y a p q = cc
+
+-- a text stands for one scenario
+one_scenario : (input : List ℕ) (s t : Scenario) → Stands input s → Stands input t → s ≡ t
+one_scenario input s t p q = p.2 ∙ ap scenario_of (same_said p.0 q.0 (said_of input) p.1 q.1) ∙ sym q.2
+
+no_fault : (fault : ScenFault) → None ≡ Some fault → ⊥
+no_fault fault e = cc
+
+-- a good text isn't refused
+good_or_refused : (input : List ℕ) (s : Scenario) (fault : ScenFault) → Stands input s → IsRefusal input fault → ⊥
+good_or_refused input s fault p refusal = no_fault fault (sym (ap result_err p.1) ∙ refusal)
+
+error_is_no_value : (fault : ScenFault) (said : Said) → Err fault ≡ Ok said → ⊥
+error_is_no_value fault said e = cc
+
+-- what is longer than the limit isn't good
+long_not_good : (input : List ℕ) (s : Scenario) → byte_limit < length input → Stands input s → ⊥
+unfolding said_of
+long_not_good input s long p =
+    let test : ltb byte_limit (length input) ≡ true = lt-ltb byte_limit (length input) long in
+    let e = rw test at p.1 in
+    error_is_no_value _ p.0 e
+
+long_reply : (r : Request) (input : List ℕ) (s : ℕ) (text : List ℕ) → byte_limit < length input → IsReply r input s text → s ≡ 2
+long_reply r input s text long (Good scenario stands headline out e) = absurd (long_not_good input scenario long stands)
+long_reply r input s text long (Refused fault refusal out e) = e
+
+one_request : (q r : Request) → Some q ≡ Some r → q ≡ r
+one_request q r e = cc
+
+one_reply : (q r : Request) (input : List ℕ) (s t : ℕ) (x y : List ℕ) → q ≡ r → IsReply q input s x → IsReply r input t y → s ≡ t
+one_reply q r input s t x y same (Good scenario stands h a e) (Good other good k b d) =
+    e ∙ ap (λ (z : Request). status_for z scenario) same
+    ∙ ap (λ (z : Scenario). status_for r z) (one_scenario input scenario other stands good) ∙ sym d
+one_reply q r input s t x y same (Good scenario stands h a e) (Refused fault refusal b d) = absurd (good_or_refused input scenario fault stands refusal)
+one_reply q r input s t x y same (Refused fault refusal a e) (Good scenario stands h b d) = absurd (good_or_refused input scenario fault stands refusal)
+one_reply q r input s t x y same (Refused fault refusal a e) (Refused other refused b d) = e ∙ sym d
+
+-- the bytes that were read are the input that the source told
+whole_input : (left : Option (List ℕ)) (input bytes : List ℕ) → Consumes (Some input) left bytes → IsAtEnd left → input ≡ bytes
+whole_input (Some rest) input bytes taken end = taken ∙ ap (λ (r : List ℕ). bytes ++ r) end ∙ append-nil bytes
+whole_input None input bytes taken end = absurd taken
+
+longer : (left : Option (List ℕ)) (input bytes : List ℕ) → Consumes (Some input) left bytes → length bytes ≤ length input
+longer (Some rest) input bytes taken = omega (arith, ap length taken, length-append bytes rest)
+longer None input bytes taken = absurd taken
+
+reply_read : (q r : Request) (left : Option (List ℕ)) (input bytes : List ℕ) (s t : ℕ) (x y : List ℕ) → q ≡ r → Consumes (Some input) left bytes
+    → (IsAtEnd left ⊎ (byte_limit < length bytes)) → IsReply q bytes s x → IsReply r input t y → s ≡ t
+reply_read q r left input bytes s t x y same taken (inl end) here there =
+    one_reply q r bytes s t x y same here (subst (λ (i : List ℕ). IsReply r i t y) (whole_input left input bytes taken end) there)
+reply_read q r left input bytes s t x y same taken (inr long) here there =
+    long_reply q bytes s x long here ∙ sym (long_reply r input t y (omega (arith, longer left input bytes taken)) there)
+
+no_request : (r : Request) → None ≡ Some r → ⊥
+no_request r e = cc
+
+nothing_served : (r : Request) (o : Option Request) → o ≡ None → o ≡ Some r → ⊥
+nothing_served r o none some = no_request r (sym none ∙ some)
+
+-- the same status is wanted of what was read and of what the source told
+one_status : (words : List (List ℕ)) (source : Source) (untouched : Type 0) (input bytes : List ℕ) (s t : ℕ) (x y : List ℕ) → source.left ≡ Some input
+    → Reads words source untouched bytes → IsWanted words bytes s x → IsWanted words input t y → s ≡ t
+one_status words source untouched input bytes s t x y told read (Usage other a e) (Usage another b d) = e ∙ sym d
+one_status words source untouched input bytes s t x y told read (Usage other a e) (Reply r asked z) = absurd (nothing_served r (served words) other asked)
+one_status words source untouched input bytes s t x y told read (Reply r asked z) (Usage other b d) = absurd (nothing_served r (served words) other asked)
+one_status words source untouched input bytes s t x y told (Untouched other same) (Reply r asked z) (Reply q too u) =
+    absurd (nothing_served r (served words) other asked)
+one_status words source untouched input bytes s t x y told (Input p asked_too took) (Reply r asked z) (Reply q too u) =
+    reply_read r q source.left_now input bytes s t x y (one_request r q (sym asked ∙ too))
+    (subst (λ (o : Option (List ℕ)). Consumes o source.left_now bytes) told took.to_limit.taken) took.whole z u
+
+-- ---- what is wanted at a status
+
+plain_low : (o : Option OneFile) (empty : Bool) → (plain_status o empty ≤ 2) × (plain_status o empty ≡ 1 → ⊥)
+plain_low (Some file) empty = (omega arith, λ one. omega arith)
+plain_low None true = (omega arith, λ one. omega arith)
+plain_low None false = (omega arith, λ one. omega arith)
+
+status_low : (r : Request) (s : Scenario) → (status_for r s ≤ 2) × (status_for r s ≡ 1 → ⊥)
+status_low (Plain seed json) s = plain_low (one_file_of s) (is_empty s)
+status_low other s = (omega arith, λ one. omega arith)
+
+low_reply : (r : Request) (input : List ℕ) (s : ℕ) (text : List ℕ) → IsReply r input s text → s ≤ 2
+low_reply r input s text (Good scenario stands h out e) = let l = (status_low r scenario).0 in omega arith
+low_reply r input s text (Refused fault refusal out e) = omega arith
+
+low : (words : List (List ℕ)) (input : List ℕ) (s : ℕ) (text : List ℕ) → IsWanted words input s text → s ≤ 2
+low words input s text (Usage other a e) = omega arith
+low words input s text (Reply r asked z) = low_reply r input s text z
+
+not_one : (r : Request) (input : List ℕ) (s : ℕ) (text : List ℕ) → IsReply r input s text → s ≡ 1 → ⊥
+not_one r input s text (Good scenario stands h out e) one = (status_low r scenario).1 (sym e ∙ one)
+not_one r input s text (Refused fault refusal out e) one = omega arith
+
+-- at status 1 nothing is served, and the text is the usage line
+at_one : (words : List (List ℕ)) (input : List ℕ) (s : ℕ) (text : List ℕ) → IsWanted words input s text → s ≡ 1 → (served words ≡ None) × (text ≡ usage_line)
+at_one words input s text (Usage other a e) one = (other, a)
+at_one words input s text (Reply r asked z) one = absurd (not_one r input s text z one)
+
+-- where nothing is served the status is 1
+others : (words : List (List ℕ)) (input : List ℕ) (s : ℕ) (text : List ℕ) → IsWanted words input s text → served words ≡ None → s ≡ 1
+others words input s text (Usage other a e) none = e
+others words input s text (Reply r asked z) none = absurd (nothing_served r (served words) none asked)
+
+untouched_source : (words : List (List ℕ)) (source : Source) (untouched : Type 0) (input : List ℕ) → Reads words source untouched input → served words ≡ None → untouched
+untouched_source words source untouched input (Untouched other same) none = same
+untouched_source words source untouched input (Input r asked took) none = absurd (nothing_served r (served words) none asked)
+
+-- ---- the call
+
+-- an answer at the status that is wanted
+answer : (words : List (List ℕ)) (source : Source) (untouched : Type 0) (input text : List ℕ) (wanted status : ℕ) (written : List ℕ → Type 0)
+    → Reads words source untouched input → IsWanted words input wanted text → wanted ≡ status → written text → Answers words source untouched status written
+answer words source untouched input text wanted status written read want same write = record {
+  input = input;
+  text = text;
+  read = read;
+  wanted = subst (λ (k : ℕ). IsWanted words input k text) same want;
+  write = write;
+}
+
+usage_of : (words : List (List ℕ)) (source : Source) (untouched : Type 0) (input text : List ℕ) (wanted : ℕ) (line : List ℕ → Type 0)
+    → Reads words source untouched input → IsWanted words input wanted text → wanted ≡ 1 → line text → (served words ≡ None) × untouched × line usage_line
+usage_of words source untouched input text wanted line read want one written =
+    let other = at_one words input wanted text want one in
+    (other.0, untouched_source words source untouched input read other.0, subst line other.1 written)
+
+pub ended : (words : List (List ℕ)) (source : Source) (sink : Sink) (untouched silent tame reliable : Type 0) (status : ℕ)
+    → Course words source sink untouched silent tame reliable status → Ended words source sink untouched silent tame reliable status
+ended words source sink untouched silent tame reliable status (SourceFailed r asked fails same still three) = record {
+  done = λ e. absurd (omega arith);
+  usage = λ e. absurd (omega arith);
+  usage_only = λ other. absurd (nothing_served r (served words) other asked);
+  refused = λ e. absurd (omega arith);
+  refused_only = λ input text told want. inr (inl three);
+  source_failed = λ e. (fails.fault, same);
+  no_read_failed = λ not_three. absurd (not_three three);
+  ends_well = λ well e. fails.not_tame well;
+  sink_failed = λ e. absurd (omega arith);
+  no_write_failed = λ r. (λ four. omega arith, still);
+  out_of_memory = λ e. absurd (omega arith);
+  statuses = omega arith;
+  taken = (fails.bytes, fails.to_limit);
+  complete = λ input text told want calm quiet. absurd (calm fails.fault);
+}
+ended words source sink untouched silent tame reliable status (NoMemory bytes well same still five) = record {
+  done = λ e. absurd (omega arith);
+  usage = λ e. absurd (omega arith);
+  usage_only = λ other. inr five;
+  refused = λ e. absurd (omega arith);
+  refused_only = λ input text told want. inr (inr five);
+  source_failed = λ e. absurd (omega arith);
+  no_read_failed = λ not_three. well.no_fault;
+  ends_well = λ t e. omega arith;
+  sink_failed = λ e. absurd (omega arith);
+  no_write_failed = λ r. (λ four. omega arith, still);
+  out_of_memory = λ e. inl same;
+  statuses = omega arith;
+  taken = (bytes, well.to_limit);
+  complete = λ input text told want calm quiet. inr five;
+}
+ended words source sink untouched silent tame reliable status (Replied input text wanted read well want (Whole written is)) =
+    let few : wanted ≤ 2 = low words input wanted text want in
+    record {
+      done = λ e. answer words source untouched input text wanted 0 _ read want (sym is ∙ e) written;
+      usage = λ e. usage_of words source untouched input text wanted (WritesLine sink) read want (sym is ∙ e) (inl written);
+      usage_only = λ other. inl (is ∙ others words input wanted text want other);
+      refused = λ e. answer words source untouched input text wanted 2 _ read want (sym is ∙ e) (inl written);
+      refused_only = λ i t told other. inl (is ∙ one_status words source untouched i input wanted 2 text t told read want other);
+      source_failed = λ e. absurd (omega arith);
+      no_read_failed = λ e. well.1.no_fault;
+      ends_well = λ t e. omega arith;
+      sink_failed = λ e. absurd (omega arith);
+      no_write_failed = λ r. (λ four. omega arith, written.no_fault);
+      out_of_memory = λ e. absurd (omega arith);
+      statuses = omega arith;
+      taken = (well.0, well.1.to_limit);
+      complete = λ i t told other calm quiet. inl (is ∙ one_status words source untouched i input wanted 0 text t told read want other);
+    }
+ended words source sink untouched silent tame reliable status (Replied input text wanted read well want (Lost breaks bad line is)) =
+    let few : wanted ≤ 2 = low words input wanted text want in
+    record {
+      done = λ e. absurd (omega arith);
+      usage = λ e. usage_of words source untouched input text wanted (WritesLine sink) read want (sym is ∙ e) (inr breaks);
+      usage_only = λ other. inl (is ∙ others words input wanted text want other);
+      refused = λ e. answer words source untouched input text wanted 2 _ read want (sym is ∙ e) (inr breaks);
+      refused_only = λ i t told other. inl (is ∙ one_status words source untouched i input wanted 2 text t told read want other);
+      source_failed = λ e. absurd (omega arith);
+      no_read_failed = λ e. well.1.no_fault;
+      ends_well = λ t e. omega arith;
+      sink_failed = λ e. absurd (omega arith);
+      no_write_failed = λ r. absurd (bad r);
+      out_of_memory = λ e. absurd (omega arith);
+      statuses = omega arith;
+      taken = (well.0, well.1.to_limit);
+      complete = λ i t told other calm quiet. absurd (quiet breaks.fault);
+    }
+ended words source sink untouched silent tame reliable status (Replied input text wanted read well want (Failed breaks bad none is)) =
+    record {
+      done = λ e. absurd (omega arith);
+      usage = λ e. absurd (omega arith);
+      usage_only = λ other. let one = others words input wanted text want other in absurd (omega arith);
+      refused = λ e. absurd (omega arith);
+      refused_only = λ i t told other. let two = one_status words source untouched i input wanted 2 text t told read want other in absurd (omega arith);
+      source_failed = λ e. absurd (omega arith);
+      no_read_failed = λ e. well.1.no_fault;
+      ends_well = λ t e. omega arith;
+      sink_failed = λ e. answer words source untouched input text wanted 0 _ read want none breaks;
+      no_write_failed = λ r. absurd (bad r);
+      out_of_memory = λ e. absurd (omega arith);
+      statuses = omega arith;
+      taken = (well.0, well.1.to_limit);
+      complete = λ i t told other calm quiet. absurd (quiet breaks.fault);
+    }
+ended words source sink untouched silent tame reliable status (Replied input text wanted read well want (OutOfMemory stops is)) =
+    record {
+      done = λ e. absurd (omega arith);
+      usage = λ e. absurd (omega arith);
+      usage_only = λ other. inr is;
+      refused = λ e. absurd (omega arith);
+      refused_only = λ i t told other. inr (inr is);
+      source_failed = λ e. absurd (omega arith);
+      no_read_failed = λ e. well.1.no_fault;
+      ends_well = λ t e. omega arith;
+      sink_failed = λ e. absurd (omega arith);
+      no_write_failed = λ r. (λ four. omega arith, stops.no_fault);
+      out_of_memory = λ e. inr (wanted, answer words source untouched input text wanted wanted _ read want refl stops);
+      statuses = omega arith;
+      taken = (well.0, well.1.to_limit);
+      complete = λ i t told other calm quiet. inr is;
+    }

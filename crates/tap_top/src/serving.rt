@@ -1,0 +1,124 @@
+//! What is written for a good scenario.
+
+ghost use Rattle.std.specs.Prelude.{◌≡◌, ◌+◌, IfOk, string_bytes};
+ghost use Rattle.tap_top.specs.OneFile.{is_empty, one_file_of};
+ghost use Rattle.tap_top.specs.Output.{empty_output};
+ghost use Rattle.tap_top.specs.Serving.{Serves};
+ghost use Rattle.tap_top.specs.Top.{command_count, count_line, not_built_line, plain_status, plain_text, upgraded};
+ghost use Rattle.scen_text.specs.ScenarioText.{scenario_text};
+
+use crate::output::{empty_output, output_of};
+use scen_text::{Phase, Scenario, print_scenario};
+use std::alloc::{AllocError, Global};
+use std::fmt::Write;
+use tap_words::Request;
+
+/// What is to be written, and the status that goes with it.
+#[derive(Drop)]
+pub struct Reply {
+    pub status: u8,
+    pub text: String,
+}
+
+// A sum, where the machine has as much memory.
+fn sum(first: usize, second: usize) -> Result<usize, AllocError>
+    ensures { IfOk result (λ n. n ≡ first + second) }
+{
+    match first.checked_add(second) {
+        Some(sum) => Ok(sum),
+        None => Err(AllocError),
+    }
+}
+
+// How many commands there are.
+fn command_count(phases: &[Phase]) -> Result<usize, AllocError>
+    ensures { IfOk result (λ n. n ≡ command_count phases.now) }
+{
+    let mut count: usize = 0;
+    for phase in phases {
+        count = sum(count, phase.lines.len())?;
+    }
+    Ok(count)
+}
+
+#[tactic(auto, unfolding(crate::specs::Top::count_line))]
+fn count_line(alloc: Global, count: usize) -> Result<String, AllocError>
+    ensures { IfOk result (λ text. string_bytes text ≡ count_line count) }
+{
+    let mut text = String::new(alloc);
+    writeln!(text, "ok {count}")?;
+    Ok(text)
+}
+
+/// The same scenario in version 2.
+fn upgraded(scenario: Scenario) -> Scenario
+    ensures { result ≡ upgraded scenario }
+{
+    let Scenario {
+        version: _,
+        declarations,
+        names,
+        phases,
+    } = scenario;
+    Scenario {
+        version: 2,
+        declarations,
+        names,
+        phases,
+    }
+}
+
+fn is_empty(scenario: &Scenario) -> bool
+    ensures { result ≡ is_empty scenario.now }
+{
+    scenario.declarations.is_empty() & scenario.phases.is_empty()
+}
+
+#[tactic(auto, unfolding(crate::specs::Top::not_built_line))]
+fn not_built(alloc: Global) -> Result<String, AllocError>
+    ensures { IfOk result (λ text. string_bytes text ≡ not_built_line) }
+{
+    String::from_str(alloc, "refused 0 15\n")
+}
+
+// A run on one thread.
+fn plain(alloc: Global, scenario: &Scenario) -> Result<Reply, AllocError>
+    ensures text { IfOk result (λ r. string_bytes r.text
+        ≡ plain_text (one_file_of scenario.now) (is_empty scenario.now)) }
+    ensures status { IfOk result (λ r. r.status ≡ plain_status (one_file_of scenario.now) (is_empty scenario.now)) }
+{
+    if let Some(text) = output_of(alloc, scenario)? {
+        return Ok(Reply { status: 0, text });
+    }
+    if is_empty(scenario) {
+        return Ok(Reply {
+            status: 0,
+            text: empty_output(alloc)?,
+        });
+    }
+    Ok(Reply {
+        status: 2,
+        text: not_built(alloc)?,
+    })
+}
+
+/// What is written for a good scenario.
+pub fn serve(alloc: Global, request: Request, scenario: Scenario) -> Result<Reply, AllocError>
+    ensures { IfOk result (λ r. Serves request scenario (string_bytes r.text) r.status) }
+{
+    match request {
+        Request::Check => Ok(Reply {
+            status: 0,
+            text: count_line(alloc, command_count(scenario.phases.as_slice())?)?,
+        }),
+        Request::Upgrade => Ok(Reply {
+            status: 0,
+            text: print_scenario(alloc, &upgraded(scenario))?,
+        }),
+        Request::Plain { .. } => plain(alloc, &scenario),
+        Request::Live { .. } | Request::Audit | Request::Gen { .. } => Ok(Reply {
+            status: 0,
+            text: String::new(alloc),
+        }),
+    }
+}
