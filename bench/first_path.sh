@@ -2,9 +2,11 @@
 # Times `tapsim plain` on scenarios of 20,000 and of 200,000 commands (frames of 60 bytes, a read for every send, up to
 # 500 frames waiting in a ring of 1,024), and on one of about 60 MB with frames of 65,535 bytes. For each it checks the
 # status and prints the time, the time of a command, the megabytes of input a second and the peak memory; for the large
-# one also the time of sha256sum on the same bytes. It needs GNU time as /usr/bin/time.
+# one also the time of sha256sum on the same bytes. It times the program itself, which bin/tapsim builds first where
+# that is needed. It needs GNU time as /usr/bin/time.
 set -eu
 top=$(CDPATH= cd -- "$(dirname -- "$0")/.." && pwd)
+program=$top/crates/tapsim/out/tapsim
 scratch=$(mktemp -d)
 trap 'rm -rf "$scratch"' EXIT
 
@@ -31,7 +33,7 @@ scenario() {
 
 # measure NAME COMMANDS: runs the program on scratch/NAME and prints its figures; the seconds stay in scratch/NAME.time.
 measure() {
-    /usr/bin/time -o "$scratch/$1.time" -f '%e %M' "$top/bin/tapsim" plain <"$scratch/$1" >"$scratch/$1.out" ||
+    /usr/bin/time -o "$scratch/$1.time" -f '%e %M' "$program" plain <"$scratch/$1" >"$scratch/$1.out" ||
         { echo "$1: status $?"; exit 1; }
     awk -v name="$1" -v commands="$2" -v size="$(wc -c <"$scratch/$1")" '{
         seconds = $1 > 0 ? $1 : 0.01
