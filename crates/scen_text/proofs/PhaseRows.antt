@@ -2,7 +2,7 @@
 use Rattle.std.proofs.Common.{◌≡◌, ℕ, ◌+◌, ◌<◌, Bool, true, false, List, [], ◌∷◌, ◌++◌, length, take, get_or, refl, sym, ap, ◌∙◌, append_assoc}
 use Rattle.std.proofs.lemmas.List.{append-nil, take_more}
 use Rattle.scen_text.specs.declared.scenario.Phase.{Phase}
-use Rattle.scen_text.specs.Field.{line, text}
+use Rattle.scen_words.specs.Field.{line, text}
 use Rattle.scen_text.specs.ScenarioText.{is_bare, phase_rows, phases_rows}
 use Rattle.scen_text.proofs.Loops.{text-append}
 

@@ -6,7 +6,7 @@ use Rattle.std.specs.Io.KnownBytes.{Consumes, IsAtEnd}
 use Rattle.std.specs.Result.{result_err}
 use Rattle.scen_text.specs.declared.fault.ScenFault.{ScenFault}
 use Rattle.scen_text.specs.declared.scenario.Scenario.{Scenario}
-use Rattle.scen_text.specs.Limits.{byte_limit}
+use Rattle.scen_words.specs.declared.limits.TheConstants.{MAX_BYTES}
 use Rattle.scen_text.specs.Refusals.{Said, said_of}
 use Rattle.scen_text.specs.Scenario.{IsRefusal, Stands, scenario_of}
 use Rattle.tap_top.specs.Course.{Course}
@@ -40,14 +40,14 @@ error_is_no_value : (fault : ScenFault) (said : Said) → Err fault ≡ Ok said 
 error_is_no_value fault said e = cc
 
 -- what is longer than the limit isn't good
-long_not_good : (input : List ℕ) (s : Scenario) → byte_limit < length input → Stands input s → ⊥
+long_not_good : (input : List ℕ) (s : Scenario) → MAX_BYTES < length input → Stands input s → ⊥
 unfolding said_of
 long_not_good input s long p =
-    let test : ltb byte_limit (length input) ≡ true = lt-ltb byte_limit (length input) long in
+    let test : ltb MAX_BYTES (length input) ≡ true = lt-ltb MAX_BYTES (length input) long in
     let e = rw test at p.1 in
     error_is_no_value _ p.0 e
 
-long_reply : (r : Request) (input : List ℕ) (s : ℕ) (text : List ℕ) → byte_limit < length input → IsReply r input s text → s ≡ 2
+long_reply : (r : Request) (input : List ℕ) (s : ℕ) (text : List ℕ) → MAX_BYTES < length input → IsReply r input s text → s ≡ 2
 long_reply r input s text long (Good scenario stands headline out e) = absurd (long_not_good input scenario long stands)
 long_reply r input s text long (Refused fault refusal out e) = e
 
@@ -72,7 +72,7 @@ longer (Some rest) input bytes taken = omega (arith, ap length taken, length-app
 longer None input bytes taken = absurd taken
 
 reply_read : (q r : Request) (left : Option (List ℕ)) (input bytes : List ℕ) (s t : ℕ) (x y : List ℕ) → q ≡ r → Consumes (Some input) left bytes
-    → (IsAtEnd left ⊎ (byte_limit < length bytes)) → IsReply q bytes s x → IsReply r input t y → s ≡ t
+    → (IsAtEnd left ⊎ (MAX_BYTES < length bytes)) → IsReply q bytes s x → IsReply r input t y → s ≡ t
 reply_read q r left input bytes s t x y same taken (inl end) here there =
     one_reply q r bytes s t x y same here (subst (λ (i : List ℕ). IsReply r i t y) (whole_input left input bytes taken end) there)
 reply_read q r left input bytes s t x y same taken (inr long) here there =

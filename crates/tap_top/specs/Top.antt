@@ -3,13 +3,13 @@ use Rattle.std.specs.Prelude.{◌≡◌, ℕ, ◌+◌, ◌<◌, ◌≤◌, ◌�
 use Rattle.std.specs.Fmt.{decimal}
 use Rattle.std.specs.Io.KnownBytes.{Appends, Consumes, IsAtEnd}
 use Rattle.scen_text.specs.declared.fault.ScenFault.{ScenFault}
-use Rattle.scen_text.specs.declared.fault.Why.{Why}
-use Rattle.scen_text.specs.declared.fault.Why.TheVariants as why
+use Rattle.scen_words.specs.declared.fault.Why.{Why}
+use Rattle.scen_words.specs.declared.fault.Why.TheVariants as why
 use Rattle.scen_text.specs.declared.scenario.Phase.{Phase}
 use Rattle.scen_text.specs.declared.scenario.Scenario.{Scenario}
-use Rattle.scen_text.specs.Field.{line}
-use Rattle.scen_text.specs.Why.{why_number}
-use Rattle.scen_text.specs.Limits.{byte_limit}
+use Rattle.scen_words.specs.Field.{line}
+use Rattle.scen_words.specs.Why.{why_number}
+use Rattle.scen_words.specs.declared.limits.TheConstants.{MAX_BYTES}
 use Rattle.scen_text.specs.Scenario.{IsRefusal, Stands}
 use Rattle.scen_text.specs.ScenarioText.{scenario_text}
 use Rattle.tap_outside.specs.Ends.{one_more}
@@ -143,12 +143,12 @@ source_between left left_now faults faults_now =
 -- at most one byte more than the limit was taken
 pub record TakesToLimit (source : Source) (bytes : List ℕ) : Type 0 where
   pub taken : Consumes source.left source.left_now bytes
-  pub few : length bytes ≤ byte_limit + 1
+  pub few : length bytes ≤ MAX_BYTES + 1
 
 -- all of the input was taken, or its front, where this is longer than the limit
 pub record TakesInput (source : Source) (input : List ℕ) : Type 0 where
   pub to_limit : TakesToLimit source input
-  pub whole : IsAtEnd source.left_now ⊎ (byte_limit < length input)
+  pub whole : IsAtEnd source.left_now ⊎ (MAX_BYTES < length input)
 
 -- what the words have read: nothing, where they ask for no command, and the source is untouched; or the input
 pub data Reads (words : List (List ℕ)) (source : Source) (untouched : Type 0) (input : List ℕ) : Type 0 where

@@ -1,7 +1,7 @@
 //! The answer to a read.
 
 ghost use Rattle.std.specs.Prelude.{◌≡◌, IfOk, take};
-ghost use Rattle.scen_text.specs.declared.trace.Answer.TheVariants.{Read as Given};
+ghost use Rattle.trace_text.specs.declared.trace.Answer.TheVariants.{Read as Given};
 ghost use Rattle.tap_frame.specs.Frame.{bytes_of};
 
 use scen_text::Answer;

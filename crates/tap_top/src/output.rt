@@ -1,8 +1,8 @@
 //! The trace and the report of a run, and their text.
 
 ghost use Rattle.std.specs.Prelude.{◌≡◌, ◌+◌, ◌<◌, ◌^◌, ◌++◌, ◌∷◌, [], List, OnOk, IfOk, string_bytes, option_map, count_by, length};
-ghost use Rattle.scen_text.specs.declared.trace.OpText.TheVariants.{SetIff as Attach};
-ghost use Rattle.scen_text.specs.Field.{line, text};
+ghost use Rattle.trace_text.specs.declared.trace.OpText.TheVariants.{SetIff as Attach};
+ghost use Rattle.scen_words.specs.Field.{line, text};
 ghost use Rattle.tap_top.specs.OneFile.{one_file_of};
 ghost use Rattle.tap_top.specs.Output.{device_fields, file_fields, total_fields, output_with, drops, is_drop, empty_output, output_of, place_lines, report_lines, trace_with};
 ghost use Rattle.tap_top.specs.Run.{Entry, reads, waiting};
