@@ -1,9 +1,8 @@
 -- A printed scenario stands for itself.
-use Rattle.std.proofs.Common.{◌≡◌, ℕ, ◌≤◌, lit<, Bool, true, false, cond, not, eqb, ltb, List, [], ◌∷◌, ◌++◌, length, map, None, Result, Ok, Err, refl, sym, ap, subst, ◌∙◌, append_assoc, arith}
+use Rattle.std.proofs.Common.{◌≡◌, ℕ, ◌≤◌, Bool, true, false, cond, not, eqb, ltb, List, [], ◌∷◌, ◌++◌, length, map, None, Result, Ok, Err, refl, sym, ap, subst, ◌∙◌, append_assoc, arith}
 use Rattle.std.specs.Prelude.{codes}
 use Rattle.std.specs.Fmt.{decimal}
 use Rattle.std.specs.List.{list_all}
-use Rattle.std.specs.Option.{IfSome}
 use Rattle.std.specs.Str.{bytes_eq}
 use Rattle.std.proofs.lemmas.Bool.{and_from, and_parts, le-ltb, eqb-true}
 use Rattle.std.proofs.lemmas.Fmt.{decimal_digit}
@@ -26,7 +25,6 @@ use Rattle.scen_words.specs.declared.sentence.Sentence.{Sentence}
 use Rattle.scen_words.specs.declared.sentence.Sentence.TheVariants.{Skipped, Declares, Orders, Opens, Ends}
 use Rattle.scen_words.specs.declared.word.CommandWord.{CommandWord}
 use Rattle.scen_words.specs.declared.word.DeclarationWord.{DeclarationWord}
-use Rattle.scen_words.specs.declared.word.DeclarationWord.TheVariants as declaration
 use Rattle.scen_text.specs.Before.{add_line, before, declarations_of, line_after, names_of, number_for, phase_of, phases_of, place_of, with_name}
 use Rattle.scen_words.specs.Commands.{declaration_of, declaration_values, declared_name, normal}
 use Rattle.scen_words.specs.Field.{line, text}

@@ -1,5 +1,5 @@
 -- What each kind of line does to what is kept, and when it is refused.
-use Rattle.std.proofs.Common.{◌≡◌, ℕ, ◌+◌, Bool, true, false, ◌&&◌, ◌||◌, not, cond, List, [], ◌∷◌, ◌++◌, Option, Some, None, Result, Ok, Err, ◌≤◌, ◌<◌, leb, refl, sym, ap, ◌∙◌, arith, length, get_or, drop, suc, zero-add}
+use Rattle.std.proofs.Common.{◌≡◌, ℕ, ◌+◌, Bool, true, false, ◌&&◌, ◌||◌, cond, List, [], ◌∷◌, ◌++◌, Option, Some, None, Result, Ok, Err, ◌≤◌, ◌<◌, leb, refl, sym, ap, ◌∙◌, arith, length, get_or, drop, suc, zero-add}
 use Rattle.std.proofs.Math.Seq.{drop-cons}
 use Rattle.std.specs.Str.{bytes_eq}
 use Rattle.scen_text.specs.declared.scenario.Scenario.{Scenario}
@@ -21,7 +21,6 @@ use Rattle.scen_words.specs.declared.fault.Why.{Why}
 use Rattle.scen_words.specs.declared.fault.Why.TheVariants as why
 use Rattle.scen_text.specs.declared.place.Place.{Place}
 use Rattle.scen_text.specs.declared.place.Place.TheVariants.{Outside, Run, Block}
-use Rattle.scen_words.specs.declared.declaration.Declaration.{Declaration}
 use Rattle.scen_text.specs.declared.scenario.Line.{Line}
 use Rattle.scen_text.specs.declared.scenario.Phase.{Phase}
 use Rattle.scen_words.specs.declared.sentence.Sentence.{Sentence}

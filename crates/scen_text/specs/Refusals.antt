@@ -1,7 +1,7 @@
 -- This project's own: the refusals of a scenario. For each of them one equation says when a line is refused for it,
 -- over what the lines before it say together; the first refusal is the first line's that has one, and on it the one
 -- with the least number.
-use Rattle.std.specs.Prelude.{◌≡◌, ℕ, suc, ◌+◌, ◌<◌, ◌≤◌, Bool, true, false, ◌&&◌, ◌||◌, not, ◌==◌, nat_lt, nat_le, if◌then◌else◌, List, [], ◌∷◌, ◌++◌, length, Option, Some, None, MatchOption, Result, Ok, Err}
+use Rattle.std.specs.Prelude.{ℕ, suc, Bool, true, false, ◌&&◌, ◌||◌, not, ◌==◌, nat_lt, nat_le, if◌then◌else◌, List, [], ◌∷◌, ◌++◌, length, Option, Some, None, Result, Ok, Err}
 use Rattle.std.specs.List.{list_any, filter_map}
 use Rattle.std.specs.Option.{option_map}
 use Rattle.std.specs.Result.{result_err}
@@ -14,7 +14,7 @@ use Rattle.scen_text.specs.declared.fault.ScenFault.{ScenFault}
 use Rattle.scen_words.specs.declared.fault.Why.{Why}
 use Rattle.scen_words.specs.declared.fault.Why.TheVariants as why
 use Rattle.scen_text.specs.declared.place.Place.{Place}
-use Rattle.scen_text.specs.declared.place.Place.TheVariants.{Outside, Run, Block}
+use Rattle.scen_text.specs.declared.place.Place.TheVariants.{Block}
 use Rattle.scen_words.specs.declared.declaration.Declaration.{Declaration}
 use Rattle.scen_words.specs.declared.declaration.Declaration.TheVariants.{File, Region, Vhost, Prog, Flows}
 use Rattle.scen_words.specs.declared.sentence.Sentence.{Sentence}

@@ -15,8 +15,8 @@ use scen_words::meaning::{
     command_of, commanded_name, declared_name, file, flows, program, region, u16_at, vhost,
 };
 use scen_words::{
-    Command, CommandWord, Declaration, DeclarationWord, MAX_COMMANDS, MAX_TURNS, OrMemory, Sentence,
-    Why, sentence_of,
+    Command, CommandWord, Declaration, DeclarationWord, MAX_COMMANDS, MAX_TURNS, OrMemory,
+    Sentence, Why, sentence_of,
 };
 use sqlite_items::Items;
 use std::alloc::{AllocError, Global};

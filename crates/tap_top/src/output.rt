@@ -9,13 +9,13 @@ ghost use Rattle.tap_top.specs.Run.{Entry, reads, waiting};
 
 use crate::parts::{capacity_in, commands_in, name_in};
 use crate::running::{Outcome, run};
-use scen_text::{
-    Answer, AnswerLine, Command, FilePart, OpLine, OpText, PhasePart, Scenario, Text, Trace,
-    print_trace,
-};
+use scen_text::{Command, Scenario};
 use sqlite_items::Items;
 use std::alloc::{AllocError, Global};
 use std::fmt::Write;
+use trace_text::{
+    Answer, AnswerLine, FilePart, OpLine, OpText, PhasePart, Text, Trace, print_trace,
+};
 
 /// Nothing happened.
 const EMPTY: &str = "taptrace 1\nend\nreport\ntotal accepted 0 waiting 0 delivered 0 discarded 0\n";
