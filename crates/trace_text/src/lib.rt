@@ -1,7 +1,7 @@
 //! Traces as plain data, and their texts.
 //!
-//! A [`Trace`] is what a run did: published operations, answers, and the line of each file. To a contract it is a record
-//! of numbers and lists. `specs/TraceText.antt` has its text.
+//! A [`Trace`] is what a run did: published operations, answers, and the line of each file. To a contract it is a
+//! record of numbers and lists. `specs/TraceText.antt` has its text.
 #![tactic(auto)]
 
 mod printing;
