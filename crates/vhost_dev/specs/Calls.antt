@@ -77,8 +77,8 @@ abbrev pub answered : {A : Type 0} → Option VhostErr → A → Result A VhostE
 answered None value = Ok value
 answered (Some error) value = Err error
 
--- a call that makes other settings, or is refused and leaves them
-abbrev pub chosen : Option VhostErr → Settings → Settings → Settings
+-- what a call makes of a value, or the value as it was where the call is refused
+abbrev pub chosen : {A : Type 0} → Option VhostErr → A → A → A
 chosen None old new = new
 chosen (Some error) old new = old
 
