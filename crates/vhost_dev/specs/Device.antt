@@ -1,7 +1,7 @@
 -- This project's own: what a clause sees of a device, and what it lends.
 use Rattle.std.specs.Prelude.{◌≡◌, ℕ, Bool, List, ◌∷◌, if◌then◌else◌}
 use Rattle.vhost_queue.specs.Queue.{Reserved}
-use Rattle.vhost_dev.specs.Settings.{RingSettings, Settings, ring_of, first_settings}
+use Rattle.vhost_dev.specs.Settings.{Settings, ring_of, first_settings}
 
 -- the settings, and how many places for published chains are reserved in each ring
 pub record Device : Type 0 where

@@ -1,5 +1,5 @@
 -- This project's own: how a ring of a device is kept, and what is asked of it.
-use Rattle.std.specs.Prelude.{◌≡◌, ℕ, List, [], ◌∷◌, Option}
+use Rattle.std.specs.Prelude.{ℕ, [], ◌∷◌, Option}
 use Rattle.guest_mem.specs.Memory.{Contents}
 use Rattle.vhost_queue.specs.Queue.{Reserved}
 use Rattle.vhost_dev.specs.declared.error.VhostErr.{VhostErr}

@@ -165,10 +165,10 @@ impl Ring {
         ensures answer { result ≡ answered (back_refusal mem.now self.now.ring) tt }
         ensures good { OnOk result (IsGood self.now.ring.queue mem.now) }
     {
-        if self.file.is_some() {
+        let layout = self.vq.layout();
+        if self.is_backed() {
             return Err(VhostErr::EBUSY);
         }
-        let layout = self.vq.layout();
         if !is_inside(layout.num, layout.desc, layout.avail, layout.used, mem) {
             return Err(VhostErr::EFAULT);
         }

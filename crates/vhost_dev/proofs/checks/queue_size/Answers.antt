@@ -1,6 +1,5 @@
-use Rattle.std.proofs.Common.{◌≡◌, ◌∙◌, sym, arith}
+use Rattle.std.proofs.Common.{◌∙◌, sym, arith}
 use Rattle.std.proofs.lemmas.Bool.{eqb-true}
-use Rattle.std.specs.Int.{is_power_of_two}
 use Rattle.vhost_dev.proofs.Sizes.{size_below}
 use Rattle.vhost_dev.proofs.checks.queue_size.Goals as goal
 
