@@ -1,4 +1,4 @@
-use Rattle.std.proofs.Common.{◌≡◌, Some, refl, sym, ap, ◌∙◌}
+use Rattle.std.proofs.Common.{refl, ap, ◌∙◌}
 use Rattle.tap_top.specs.Course.Course.{NoMemory, Replied, SourceFailed}
 use Rattle.tap_top.specs.Top.{reads_input}
 use Rattle.tap_top.specs.Top.IsWanted.{Reply}
