@@ -1,0 +1,6 @@
+pub mod Bytes
+pub mod Apart
+pub mod Ground
+pub mod Links
+pub mod Walk
+pub mod Posts
