@@ -1,6 +1,6 @@
 -- VIRTIO 1.2, 2.7.7 to 2.7.14: what a device makes of a ring that it serves, one change for each kind of step. How many
 -- segments it gathers at most is this project's own.
-use Rattle.std.specs.Prelude.{ℕ, ◌+◌, ◌-◌, ◌==◌, Bool, not, ◌||◌, List, [], ◌∷◌, ◌++◌, length, Option, None, Some, if◌then◌else◌}
+use Rattle.std.specs.Prelude.{ℕ, ◌+◌, ◌-◌, ◌==◌, Bool, not, ◌||◌, List, [], ◌∷◌, ◌++◌, length, All, IsTrue, Option, None, Some, if◌then◌else◌}
 use Rattle.guest_mem.specs.Memory.{Contents, byte_at, covers}
 use Rattle.vring_split.specs.declared.fault.RingFault.{RingFault}
 use Rattle.vring_split.specs.declared.segment.Segment.{Segment}
@@ -45,6 +45,11 @@ segments_of (c ∷ cs) = c.segments ++ segments_of cs
 abbrev pub room_in : List Gathered → ℕ
 room_in [] = 0
 room_in (c ∷ cs) = bytes_in c.segments + room_in cs
+
+-- the segments of chains lie in a memory, of which a test tells whether the bytes from an address on are there
+abbrev pub LieIn : (ℕ → ℕ → Bool) → List Gathered → Type 0
+LieIn covers [] = Unit {0}
+LieIn covers (c ∷ cs) = All (λ s. IsTrue (covers s.addr s.len)) c.segments × LieIn covers cs
 
 -- the ring with other lists of positions, and with other gathered chains
 abbrev pub moved : (Positions → Positions) → List Gathered → Ring → Ring

@@ -24,7 +24,8 @@ use Rattle.vring_turns.specs.TransmitBytes.{bytes_of_chain, counted, refusal_of,
 use Rattle.vring_turns.specs.Turn.{is_enough, publishes_at}
 
 -- a transmit turn: the size of the header, the name of its first frame, how many packets and bytes it handled and
--- how many frames it accepted, the chain that was fetched and isn't done, if there is one, and where it stands
+-- how many frames it accepted; the chain that was fetched and isn't done, or the frame that was accepted and isn't
+-- given, if there is one; and where it stands
 pub record TxTurn : Type 0 where
   pub header : ℕ
   pub first : Name
@@ -32,6 +33,7 @@ pub record TxTurn : Type 0 where
   pub bytes : ℕ
   pub accepted : ℕ
   pub chains : List Gathered
+  pub held : Option FrameValue
   pub stage : TxStage
 
 -- the turn with what it works on: the queue, the guest's memory and the host
@@ -50,6 +52,7 @@ tx_begun header first = record {
   bytes = 0;
   accepted = 0;
   chains = [];
+  held = None;
   stage = Begin;
 }
 
@@ -141,7 +144,8 @@ tx_judged position bytes None s = (
   record s {
     turn = record s.turn {
       accepted = s.turn.accepted + 1;
-      stage = Give (frame_of s.turn.header (next_name s.turn) bytes);
+      held = Some (frame_of s.turn.header (next_name s.turn) bytes);
+    stage = Give;
     };
   },
   act.Copy position (next_name s.turn),
@@ -154,11 +158,12 @@ tx_copies (c ∷ cs) s =
     Some (tx_judged (first_position (tx_ring s)) bytes (refusal_of s.turn.header bytes) (tx_done c s))
 
 -- the host takes the frame, where it has room
-abbrev pub tx_gives : FrameValue → TxState → Option (TxState × Act)
-tx_gives frame s =
+abbrev pub tx_gives : Option FrameValue → TxState → Option (TxState × Act)
+tx_gives None s = None
+tx_gives (Some frame) s =
     if nat_lt 0 s.host.room then Some (
       record s {
-        turn = at_stage (tx_after_packet s.turn s.queue) s.turn;
+        turn = record s.turn { held = None; stage = tx_after_packet s.turn s.queue };
         host = with_given frame s.host;
       },
       act.Given frame.name,
@@ -174,7 +179,7 @@ tx_next FetchAgain s = tx_fetches tx_after_second s
 tx_next (NoticesOff fault) s =
     Some (tx_made (noticed false (tx_ring s) s.memory) (tx_after_notices s.queue fault) s)
 tx_next Copy s = tx_copies s.turn.chains s
-tx_next (Give frame) s = tx_gives frame s
+tx_next Give s = tx_gives s.turn.held s
 tx_next (Publish end) s = tx_publishes end s
 tx_next (Ended end) s = None
 

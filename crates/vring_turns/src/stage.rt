@@ -1,10 +1,10 @@
 //! Where a turn stands: which step comes next.
 use crate::end::End;
-use tap_frame::Frame;
 use tap_ledger::Fate;
 use vring_split::RingFault;
 
 /// Where a transmit turn stands.
+#[derive(Clone, Copy, Debug, PartialEq, Eq)]
 pub enum TxStage {
     /// At its beginning notices are turned off.
     Begin,
@@ -18,8 +18,8 @@ pub enum TxStage {
     NoticesOff { fault: Option<RingFault> },
     /// The bytes of the chain that was fetched are read.
     Copy,
-    /// They are this frame, which is given to the host.
-    Give(Frame),
+    /// They are a frame, which is given to the host.
+    Give,
     /// What is done is published, and then the turn goes on or ends.
     Publish { end: Option<End> },
     /// It is over.
