@@ -1,16 +1,15 @@
 //! The worker.
 ghost use Rattle.std.specs.Prelude.{◌≡◌, ◌↔◌, IsTrue, IfOk, OnOk, OnErr, None};
-
 ghost use Rattle.std.specs.Option.{option_copied};
 ghost use Rattle.vhost_queue.specs.Positions.{IsIdle};
 ghost use Rattle.vhost_queue.specs.Queue.{turn_places};
 ghost use Rattle.vring_turns.specs.TransmitBytes.{is_header_size};
 ghost use Rattle.vring_turns.specs.TxTurn.{tx_begun, tx_report};
 
+use crate::stages::{chains_at, goes_on_at, holds_at, publishes_at, stopped_at};
 use std::alloc::{AllocError, Global};
 use std::marker::Model;
 use tap_frame::{Frame, Name};
-use crate::stages::{chains_at, goes_on_at, holds_at, publishes_at, stopped_at};
 use vhost_queue::Vq;
 use vring_split::Layout;
 use vring_turns::{End, Step, TurnEnd, TxStage};
@@ -24,7 +23,9 @@ const MOST: usize = 65_536;
 
 /// How many packets, bytes and chains one turn handles.
 const MOST_PACKETS: u32 = 256;
+
 const MOST_BYTES: u64 = 524_288;
+
 const MOST_CHAINS: u32 = 1024;
 
 /// A worker that makes one transmit turn.
@@ -64,17 +65,15 @@ impl TxWorker {
 
     /// A worker for one turn on a queue, whose frames have a header of `hdr` bytes, 10 or 12, in front of
     /// them. Its first frame gets the name, with part 0. It reserves what the turn needs.
-    pub fn begin(
-        alloc: Global,
-        vq: &mut Vq,
-        hdr: u16,
-        name: Name,
-    ) -> Result<TxWorker, AllocError>
+    pub fn begin(alloc: Global, vq: &mut Vq, hdr: u16, name: Name) -> Result<TxWorker, AllocError>
         requires size { IsTrue (is_header_size hdr) }
         requires idle { IsIdle vq.old.queue.positions }
         requires running { vq.old.queue.stopped ≡ None }
         ensures begun { IfOk result (λ w. w ≡ record {
-            turn = tx_begun hdr name; layout = vq.old.queue.layout; next = vq.old.queue.positions.next }) }
+          turn = tx_begun hdr name;
+          layout = vq.old.queue.layout;
+          next = vq.old.queue.positions.next;
+        }) }
         ensures reserved { OnOk result (vq.new ≡ record vq.old { reserved = turn_places }) }
         ensures fits { IfOk result (λ w. Fits w vq.new) }
         ensures unchanged { OnErr result (vq.new ≡ vq.old) }

@@ -17,5 +17,5 @@ both b f t = cc
 pub returns-else-wants_memory : goal.returns-else-wants_memory
 returns-else-wants_memory c =
     let other : c.in-Err.bad ≡ NoMemory → ⊥ =
-        λ e. both _ c.if-wants_memory.false (c.wants_memory.ensures.1 e) in
+    λ e. both _ c.if-wants_memory.false (c.wants_memory.ensures.1 e) in
     sym (c.shape_of.ensures.case c.args.bytes.now) ∙ refused_for _ _ other c.in-Err.ensures.refused

@@ -8,7 +8,7 @@ use Rattle.vhost_tx.proofs.worker.TxWorker.read.Goals as goal
 pub returns-clause-read : goal.returns-clause-read
 returns-clause-read c =
     let one : List Segment → List Gathered =
-        λ segments. record { head = c.in-Some.head; segments = segments } ∷ [] in
+    λ segments. record { head = c.in-Some.head; segments = segments } ∷ [] in
     rw (← c.self.view_is) (record {
       chain = record { head = c.in-Some.head; segments = c.list.result.now };
       only = ap (λ h. chain_of h c.self.inside.room) c.in-Some.is ∙ ap one (sym c.list.ensures.list);
