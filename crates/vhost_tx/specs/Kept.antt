@@ -1,7 +1,8 @@
 -- This project's own: how a transmit worker is kept.
-use Rattle.std.specs.Prelude.{◌≡◌, ℕ, ◌+◌, ◌≤◌, List, [], ◌∷◌, length, Option, None, Some}
+use Rattle.std.specs.Prelude.{◌≡◌, ℕ, ◌+◌, IsTrue, List, [], ◌∷◌, length, Option, None, Some}
 use Rattle.vring_split.specs.declared.segment.Segment.{Segment}
 use Rattle.vring_turns.specs.Ring.{Gathered}
+use Rattle.vring_turns.specs.TransmitBytes.{is_header_size}
 use Rattle.vhost_tx.specs.declared.worker.TxWorker.TheInside.{Inside}
 use Rattle.vhost_tx.specs.Worker.{Worker}
 
@@ -29,6 +30,5 @@ worker_of w = record {
 
 -- the header is 10 or 12 bytes, and the buffer is as long as what is looked at of a chain
 pub record HasBuffer (w : Inside) : Type 0 where
-  pub least : 10 ≤ w.hdr
-  pub most : w.hdr ≤ 12
+  pub size : IsTrue (is_header_size w.hdr)
   pub buffer : length w.buffer.items ≡ w.hdr + 65536

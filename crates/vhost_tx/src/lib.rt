@@ -7,6 +7,7 @@
 #![tactic(auto)]
 
 mod gather;
+mod stages;
 mod steps;
 mod worker;
 

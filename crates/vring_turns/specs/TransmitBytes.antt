@@ -1,5 +1,5 @@
 -- VIRTIO 1.2, 5.1.6.2: how a frame is read from the chain that carries it. Which bytes are a frame is this project's own.
-use Rattle.std.specs.Prelude.{◌≡◌, ℕ, ◌+◌, ◌≤◌, min, false, ◌==◌, List, length, Option, Some, unwrap_or, if◌then◌else◌}
+use Rattle.std.specs.Prelude.{◌≡◌, ℕ, ◌+◌, ◌≤◌, min, Bool, false, ◌==◌, ◌||◌, List, length, Option, Some, unwrap_or, if◌then◌else◌}
 use Rattle.std.specs.Option.{ForSome}
 use Rattle.std.proofs.Common.{subst, ap, lit≤}
 use Rattle.guest_mem.specs.Memory.{Contents}
@@ -11,7 +11,10 @@ use Rattle.tap_frame.specs.Frame.{FrameValue}
 use Rattle.tap_frame.specs.Spelling.{first_case, header_in, behind_header}
 use Rattle.vring_turns.specs.Ring.{Gathered, bytes_in}
 
--- 5.1.6: the header has 12 bytes, or 10
+-- 5.1.6: the header has 10 bytes, or 12
+abbrev pub is_header_size : ℕ → Bool
+is_header_size size = size == 10 || size == 12
+
 abbrev pub ten : Option ℕ
 ten = Some 10
 

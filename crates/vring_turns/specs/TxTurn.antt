@@ -145,7 +145,7 @@ tx_judged position bytes None s = (
     turn = record s.turn {
       accepted = s.turn.accepted + 1;
       held = Some (frame_of s.turn.header (next_name s.turn) bytes);
-    stage = Give;
+      stage = Give;
     };
   },
   act.Copy position (next_name s.turn),
