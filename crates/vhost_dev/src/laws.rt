@@ -4,7 +4,7 @@ ghost use Rattle.vhost_dev.specs.Examples.{NumbersAreLookedAt, AddressesAreLooke
 
 /// What is ready for a backend lies in the memory, and stays there while the ring has one, since no
 /// call changes its layout; and a stopped ring stays stopped over each call but one that sets its
-/// backend.
+/// backend and isn't refused.
 pub fn rings_stay_good()
     ensures sizes { SizesStay }
     ensures ready { ReadyIsGood }
