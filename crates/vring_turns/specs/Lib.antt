@@ -7,3 +7,6 @@ pub mod RxTurn
 pub mod Example
 pub mod TxExamples
 pub mod RxExamples
+pub mod RxGathering
+pub mod RxPublishing
+pub mod TxCases

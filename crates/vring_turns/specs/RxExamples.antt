@@ -95,7 +95,7 @@ BadTableStops =
     × (rx_reported stopped_turn.1 ≡ (0, 0, Some (Stopped IndirectLength)))
     × (stopped_turn.1.queue.stopped ≡ Some IndirectLength)
 
--- frames and no chain: the first one is too long for nothing
+-- frames and no chain: the first one is put back, and lacks all that it needs
 abbrev pub NoChainIsShort : Type 0
 NoChainIsShort =
     rx_reported (rx_steps 30 (frame_with 0 46 ∷ frame_with 1 46 ∷ []) (rx_start true (receivable 0 []))).1

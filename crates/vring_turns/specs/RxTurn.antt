@@ -147,7 +147,8 @@ abbrev pub rx_way : ℕ → RxState → Option After
 rx_way need s =
     goes_on s.turn.mergeable need (fetches (rx_ring s) s.memory).ring.chains (found (rx_ring s) s.memory).0
 
--- the first fetch of two, or the second, for a frame that needs so many bytes
+-- the first fetch of two, or the second, for a frame that needs so many bytes; a Short tells what the chains have, to
+-- which a fetch that finds nothing adds none
 abbrev pub rx_fetches : Bool → ℕ → RxState → RxState × Act
 rx_fetches second need s =
     let way = rx_way need s in
@@ -190,7 +191,8 @@ rx_puts_back end s =
 
 -- what the queue of frames handed out: a frame, or none was ready; off and want of memory make no step
 abbrev pub rx_hands : Hand → RxState → Option (RxState × Act)
-rx_hands (hand.Got frame) s = Some (record s { turn = record s.turn { held = Some frame; stage = stage.Fetch } }, act.Hand)
+rx_hands (hand.Got frame) s =
+    Some (record s { turn = record s.turn { held = Some frame; stage = stage.Fetch } }, act.Hand)
 rx_hands (hand.NotReady place) s = Some (record s { turn = rx_at (rx_closing Idle s.queue) s.turn }, act.NotReady)
 rx_hands hand.Off s = None
 rx_hands hand.NoMemory s = None

@@ -15,9 +15,9 @@ pub enum End {
     },
     /// It did as much as one turn does: 256 packets, 524,288 bytes or 1,024 chains.
     Again,
-    /// The ring broke this rule.
+    /// The ring broke this rule, in this turn or since its backend was set.
     Stopped(RingFault),
-    /// The queue of frames is off.
+    /// The ring has no backend, or the queue of frames is off.
     Off,
     /// Memory ran out.
     NoMemory,
