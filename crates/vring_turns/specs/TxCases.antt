@@ -98,6 +98,22 @@ NoInterrupt =
     × ((tx_step (tx_steps 7 (tx_restarted 1)).1) ≡ Some ((tx_steps 8 (tx_restarted 1)).1, Publish 1 false))
     × ((tx_step (tx_steps 7 (tx_restarted 254)).1) ≡ Some ((tx_steps 8 (tx_restarted 254)).1, Publish 1 true))
 
+-- used_event is read after the used entries are written: here the first of them lies over it, and makes a 0 of the 5
+-- that the driver left there
+abbrev pub laid_over : Layout
+laid_over = ring_of false 4 64 72
+
+abbrev pub overwritten : List Act × TxState
+overwritten = tx_steps 20 (tx_start (queue_on laid_over) (memory_with
+    (with_bytes (with_bytes (with_table 0 (good ∷ []) (offered_at 64 1 (0 ∷ []) [])) 76 (5 ∷ [])) (4096 + 12) ethernet)))
+
+abbrev pub NoticeIsJudgedLast : Type 0
+NoticeIsJudgedLast =
+    (overwritten.0
+    ≡ Notices false false ∷ Fetch 0 0 ∷ Copy 0 (name_of 0) ∷ Given (name_of 0)
+    ∷ Nothing ∷ Notices true true ∷ Nothing ∷ Publish 1 true ∷ [])
+    × (number_at 76 overwritten.1.memory ≡ 0)
+
 -- Enough.
 
 abbrev pub going_on : ℕ → ℕ → TxState

@@ -1,7 +1,7 @@
 //! More worked rings, as contracts of functions that do nothing.
 ghost use Rattle.vring_turns.specs.RxGathering.{StillTooShort, LateChainTakesIt, OverrunAtSecondFetch, CrowdedAfterTwo, CrowdedAtSecondFetch, JustFits, QuotaOverruns, JumpStops};
 ghost use Rattle.vring_turns.specs.RxPublishing.{EnoughChains, EnoughBytesOrPackets, PublishedBy64, OverrunThenGuest, DoneThenPutBack, CutFrameGoesCut, NoCountOfBuffers, PositionsWrap};
-ghost use Rattle.vring_turns.specs.TxCases.{HaltAtSecondFetch, ChainAtSecondFetch, RefusedBetween, NoNotifyAlone, NoInterrupt, EnoughBytes, TenBytesOfHeader, Refusals, LongIsRefused};
+ghost use Rattle.vring_turns.specs.TxCases.{HaltAtSecondFetch, ChainAtSecondFetch, RefusedBetween, NoNotifyAlone, NoInterrupt, NoticeIsJudgedLast, EnoughBytes, TenBytesOfHeader, Refusals, LongIsRefused};
 
 /// Receive turns on worked rings: chains that come between two fetches, too many segments, the last chain that a
 /// frame may take.
@@ -35,6 +35,7 @@ pub fn transmit_cases()
     ensures refused_between { RefusedBetween }
     ensures no_notify_alone { NoNotifyAlone }
     ensures no_interrupt { NoInterrupt }
+    ensures notice_is_judged_last { NoticeIsJudgedLast }
     ensures enough_bytes { EnoughBytes }
     ensures ten_bytes_of_header { TenBytesOfHeader }
     ensures refusals { Refusals }

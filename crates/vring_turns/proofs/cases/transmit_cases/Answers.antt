@@ -27,6 +27,10 @@ pub returns-clause-no_interrupt : goal.returns-clause-no_interrupt
 unfolding is_there look gaps first_bad bytes_at bytes_from with_bytes desc_bytes desc_of desc_at avail_idx avail_head path_end path_from fetched field_at with_field with_entries published_in wants_notice noticed_at used_elem_bytes
 returns-clause-no_interrupt c = (refl, refl, refl)
 
+pub returns-clause-notice_is_judged_last : goal.returns-clause-notice_is_judged_last
+unfolding is_there look gaps first_bad bytes_at bytes_from with_bytes desc_bytes desc_of desc_at avail_idx avail_head path_end path_from fetched field_at with_field with_entries published_in wants_notice noticed_at used_elem_bytes
+returns-clause-notice_is_judged_last c = (refl, refl)
+
 pub returns-clause-enough_bytes : goal.returns-clause-enough_bytes
 unfolding is_there look gaps first_bad bytes_at bytes_from with_bytes desc_bytes desc_of desc_at avail_idx avail_head path_end path_from fetched field_at with_field with_entries published_in wants_notice noticed_at used_elem_bytes
 returns-clause-enough_bytes c = (refl, refl, refl, refl)
