@@ -1,5 +1,5 @@
 -- Lists of positions follow one another.
-use Rattle.std.proofs.Common.{◌≡◌, ℕ, ◌+◌, ◌-◌, ◌^◌, ◌<◌, ◌≤◌, Bool, true, false, List, [], ◌∷◌, ◌++◌, length, map, take, drop, Option, None, refl, ap, ◌∙◌, arith}
+use Rattle.std.proofs.Common.{◌≡◌, ℕ, ◌-◌, ◌^◌, ◌<◌, ◌≤◌, Bool, true, false, List, [], ◌∷◌, ◌++◌, length, map, take, drop, None, ap, ◌∙◌, arith}
 use Rattle.std.proofs.lemmas.Bool.{ltb-false}
 use Rattle.std.proofs.lemmas.List.{take_rest, take-append-le, drop-append-le, length-drop}
 use Rattle.guest_mem.specs.Memory.{Contents}
@@ -9,7 +9,7 @@ use Rattle.vhost_dev.specs.declared.error.VhostErr.TheVariants.{EINVAL, EBUSY, E
 use Rattle.vhost_dev.specs.Settings.{RingSettings, Settings, ring_of, ring_at, is_rx}
 use Rattle.vhost_dev.specs.Refusals.{is_no_ring, is_backed, is_bad_position}
 use Rattle.vhost_dev.specs.Calls.{IsIdleRing, resized, begun, placed, backed, unbacked}
-use Rattle.vhost_dev.specs.Laws.{Call, after, refusal_of, made_by}
+use Rattle.vhost_dev.specs.Laws.{Call, refusal_of, made_by}
 use Rattle.vhost_dev.specs.Laws.Call.{SetFeatures, SetNum, SetBase, SetAddr, SetBackend, UnsetBackend}
 use Rattle.vhost_dev.specs.Lists.{IsOver, AreInOrder, IsRingInOrder, CallsKeepOrder, ServingKeepsOrder}
 use Rattle.vhost_dev.proofs.Rings.{chosen_has, none_of_three, each_ring}

@@ -1,5 +1,5 @@
 -- VIRTIO 1.2, 2.7 and 5.1.6.3, and this project's own: how receive turns gather chains, on worked rings.
-use Rattle.std.specs.Prelude.{◌≡◌, ℕ, ◌+◌, true, false, List, [], ◌∷◌, ◌++◌, replicate, None, Some}
+use Rattle.std.specs.Prelude.{◌≡◌, ℕ, true, false, List, [], ◌∷◌, ◌++◌, replicate, None, Some}
 use Rattle.guest_mem.specs.Memory.{Contents}
 use Rattle.vring_split.specs.declared.layout.Layout.{Layout}
 use Rattle.vring_split.specs.declared.segment.Segment.{Segment}

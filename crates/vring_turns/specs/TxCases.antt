@@ -1,15 +1,14 @@
 -- VIRTIO 1.2, 2.7 and 5.1.6, and this project's own: more transmit turns, on worked rings.
-use Rattle.std.specs.Prelude.{◌≡◌, ℕ, ◌+◌, true, false, List, [], ◌∷◌, map, Option, None, Some}
+use Rattle.std.specs.Prelude.{◌≡◌, ℕ, ◌+◌, true, false, List, [], ◌∷◌, map, Some}
 use Rattle.guest_mem.specs.Memory.{Contents, with_bytes}
 use Rattle.vring_split.specs.declared.layout.Layout.{Layout}
 use Rattle.vring_split.specs.declared.fault.RingFault.TheVariants.{Direction}
 use Rattle.tap_frame.specs.declared.reading.BadFrame.TheVariants.{ShortHdr, HdrBeyond, ShortEther, HdrShort, TooLong}
 use Rattle.tap_ledger.specs.declared.act.Act.{Act}
 use Rattle.tap_ledger.specs.declared.act.Act.TheVariants.{Fetch, Nothing, Halt, Copy, Refused, Given, Publish, Notices}
-use Rattle.vring_turns.specs.declared.end.End.{End}
 use Rattle.vring_turns.specs.declared.end.End.TheVariants.{Idle, Again, Stopped}
 use Rattle.vring_turns.specs.declared.stage.TxStage.TheVariants as stage
-use Rattle.vring_turns.specs.TxTurn.{TxTurn, TxState, tx_begun, tx_step}
+use Rattle.vring_turns.specs.TxTurn.{TxState, tx_begun, tx_step}
 use Rattle.vring_turns.specs.Example.{memory_with, ring_of, queue_on, with_table, offered_at, number_at, ethernet, name_of, frame_with}
 use Rattle.vring_turns.specs.TxExamples.{tx_steps, tx_start, tx_reported, small_ring, sendable, good}
 
