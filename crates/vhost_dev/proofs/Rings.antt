@@ -235,8 +235,9 @@ stopped_made m s (UnsetBackend ring) rx fault h e =
 
 pub stopped_stays :
     (m : Contents) (s : Settings) (call : Call) (rx : Bool) (fault : RingFault)
-    → (ring_of rx s).queue.stopped ≡ Some fault → sets_backend rx call ≡ false
+    → (ring_of rx s).queue.stopped ≡ Some fault
+    → (refusal_of m s call ≡ None → sets_backend rx call ≡ false)
     → (ring_of rx (after m s call)).queue.stopped ≡ Some fault
 stopped_stays m s call rx fault h e =
     chosen_has (λ (t : Settings). (ring_of rx t).queue.stopped ≡ Some fault) (refusal_of m s call) s (made_by m s call) h
-    (λ n. stopped_made m s call rx fault h e)
+    (λ n. stopped_made m s call rx fault h (e n))

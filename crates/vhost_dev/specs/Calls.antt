@@ -42,6 +42,7 @@ unbacked r = record r { file = None }
 
 -- Changes of the settings.
 
+-- with other features
 abbrev pub with_features : ℕ → Settings → Settings
 with_features bits s = record {
   mrg = has_bit bits mrg_rxbuf;
@@ -50,18 +51,23 @@ with_features bits s = record {
   tx = agreed (has_bit bits indirect_desc) (has_bit bits event_idx) s.tx;
 }
 
+-- with another queue size in a ring
 abbrev pub with_num : ℕ → ℕ → Settings → Settings
 with_num ring num s = at_ring ring (resized num) s
 
+-- with a list of positions that begins in a ring
 abbrev pub with_base : ℕ → ℕ → Settings → Settings
 with_base ring base s = at_ring ring (begun base) s
 
+-- with a ring at other addresses
 abbrev pub with_addr : ℕ → ℕ → ℕ → ℕ → Settings → Settings
 with_addr ring desc avail used s = at_ring ring (placed desc avail used) s
 
+-- with a file as the backend of a ring
 abbrev pub with_backend : ℕ → ℕ → Contents → Settings → Settings
 with_backend ring file m s = at_ring ring (backed file m) s
 
+-- with no backend in a ring
 abbrev pub without_backend : ℕ → Settings → Settings
 without_backend ring s = at_ring ring unbacked s
 
@@ -82,21 +88,27 @@ abbrev pub chosen : {A : Type 0} → Option VhostErr → A → A → A
 chosen None old new = new
 chosen (Some error) old new = old
 
+-- a call that makes other settings and answers a value, or is refused and changes nothing
 abbrev pub changes : {A : Type 0} → Option VhostErr → Settings → Settings → A → Outcome A
 changes refusal old new value = record { settings = chosen refusal old new; answer = answered refusal value }
 
+-- 5.1.3, 6: features are agreed on
 abbrev pub set_features : ℕ → Settings → Outcome (Unit {0})
 set_features bits s = changes (features_refusal bits s) s (with_features bits s) tt
 
+-- a ring gets a queue size
 abbrev pub set_num : ℕ → ℕ → Settings → Outcome (Unit {0})
 set_num ring num s = changes (num_refusal ring num s) s (with_num ring num s) tt
 
+-- a ring begins a list of positions
 abbrev pub set_base : ℕ → ℕ → Settings → Outcome (Unit {0})
 set_base ring base s = changes (base_refusal ring base s) s (with_base ring base s) tt
 
+-- the position of a ring's next chain
 abbrev pub get_base : ℕ → Settings → Result ℕ VhostErr
 get_base ring s = answered (number_refusal ring) (ring_at ring s).queue.positions.next
 
+-- a ring gets its addresses
 abbrev pub set_addr : ℕ → ℕ → ℕ → ℕ → Contents → Settings → Outcome (Unit {0})
 set_addr ring desc avail used m s =
     changes (addr_refusal ring desc avail used m s) s (with_addr ring desc avail used s) tt

@@ -24,18 +24,20 @@ queue_of rx d = record {
   reserved = if rx then d.rx_reserved else d.tx_reserved;
 }
 
--- the device with another queue in a ring; the other ring and all settings stay
+-- the device with another queue in the ring that receives; the other ring and all settings stay
 abbrev pub with_rx_queue : Device → Reserved → Device
 with_rx_queue d q = record d {
   settings = record d.settings { rx = record d.settings.rx { queue = q.queue } };
   rx_reserved = q.reserved;
 }
 
+-- in the ring that transmits
 abbrev pub with_tx_queue : Device → Reserved → Device
 with_tx_queue d q = record d {
   settings = record d.settings { tx = record d.settings.tx { queue = q.queue } };
   tx_reserved = q.reserved;
 }
 
+-- in either
 abbrev pub with_queue : Bool → Device → Reserved → Device
 with_queue rx d q = if rx then with_rx_queue d q else with_tx_queue d q

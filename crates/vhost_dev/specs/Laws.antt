@@ -78,9 +78,11 @@ BackedStayGood =
     (m : Contents) (s : Settings) (call : Call)
     → HaveSizes s → BackedAreGood m s → BackedAreGood m (after m s call)
 
--- a stopped ring stays stopped, by the same fault, over every call but one that sets its backend, also over an unset
+-- a stopped ring stays stopped, by the same fault, over every call but one that sets its backend and isn't refused:
+-- also over an unset, and over a set that is refused
 abbrev pub StoppedStays : Type 0
 StoppedStays =
     (m : Contents) (s : Settings) (call : Call) (rx : Bool) (fault : RingFault)
-    → (ring_of rx s).queue.stopped ≡ Some fault → sets_backend rx call ≡ false
+    → (ring_of rx s).queue.stopped ≡ Some fault
+    → (refusal_of m s call ≡ None → sets_backend rx call ≡ false)
     → (ring_of rx (after m s call)).queue.stopped ≡ Some fault

@@ -2,6 +2,7 @@ pub mod Settings
 pub mod Refusals
 pub mod Calls
 pub mod Laws
+pub mod Lists
 pub mod Examples
 pub mod Device
 pub mod KeptRing

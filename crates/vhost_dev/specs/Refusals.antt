@@ -47,29 +47,34 @@ is_astray l m = is_outside l.num l.desc l.avail l.used m
 
 -- Refusals of the calls.
 
+-- of features: a backend of either ring, or a bit that isn't offered
 abbrev pub features_refusal : ℕ → Settings → Option VhostErr
 features_refusal bits s = first_reason
     ((is_backed s.rx || is_backed s.tx, EBUSY) ∷ (asks_more bits, ENOTSUP) ∷ [])
 
+-- of a queue size
 abbrev pub num_refusal : ℕ → ℕ → Settings → Option VhostErr
 num_refusal ring num s = first_reason
     ((is_no_ring ring, ENOBUFS) ∷ (is_backed (ring_at ring s), EBUSY) ∷ (is_bad_size num, EINVAL) ∷ [])
 
+-- of a base
 abbrev pub base_refusal : ℕ → ℕ → Settings → Option VhostErr
 base_refusal ring base s = first_reason
     ((is_no_ring ring, ENOBUFS) ∷ (is_backed (ring_at ring s), EBUSY) ∷ (is_bad_position base, EINVAL) ∷ [])
 
--- the addresses are looked at with the queue size of the moment
+-- of addresses, which are looked at with the queue size of the moment
 abbrev pub addr_refusal : ℕ → ℕ → ℕ → ℕ → Contents → Settings → Option VhostErr
 addr_refusal ring desc avail used m s = first_reason
     ((is_no_ring ring, ENOBUFS) ∷ (is_backed (ring_at ring s), EBUSY) ∷ (is_unaligned desc avail used, EINVAL)
     ∷ (is_outside (ring_at ring s).queue.layout.num desc avail used m, EFAULT) ∷ [])
 
+-- of a backend
 abbrev pub ready_refusal : ℕ → Contents → Settings → Option VhostErr
 ready_refusal ring m s = first_reason
     ((is_no_ring ring, ENOBUFS) ∷ (is_backed (ring_at ring s), EBUSY)
     ∷ (is_astray (ring_at ring s).queue.layout m, EFAULT) ∷ [])
 
+-- of a call that needs a ring and nothing else
 abbrev pub number_refusal : ℕ → Option VhostErr
 number_refusal ring = first_reason ((is_no_ring ring, ENOBUFS) ∷ [])
 

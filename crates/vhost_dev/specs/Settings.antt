@@ -18,15 +18,17 @@ pub record Settings : Type 0 where
   pub rx : RingSettings
   pub tx : RingSettings
 
--- a device as it begins: no feature, no backend, and in each ring one list of positions, from 0 on
+-- a ring as it begins: no backend, and one list of positions, from 0 on
 abbrev pub first_ring : Bool → RingSettings
 first_ring rx = record { queue = first_queue rx; file = None; lists = (0, 0) ∷ [] }
 
+-- a device as it begins: no feature
 abbrev pub first_settings : Settings
 first_settings = record { mrg = false; version_1 = false; rx = first_ring true; tx = first_ring false }
 
 -- Rings by their direction and by their number: 0 receives, 1 transmits, and there is no other.
 
+-- the ring that receives, or the one that transmits
 abbrev pub ring_of : Bool → Settings → RingSettings
 ring_of rx s = if rx then s.rx else s.tx
 
@@ -34,9 +36,11 @@ ring_of rx s = if rx then s.rx else s.tx
 abbrev pub with_ring : Bool → RingSettings → Settings → Settings
 with_ring rx r s = if rx then record s { rx = r } else record s { tx = r }
 
+-- the ring of a number receives
 abbrev pub is_rx : ℕ → Bool
 is_rx ring = ring == 0
 
+-- the ring of a number
 abbrev pub ring_at : ℕ → Settings → RingSettings
 ring_at ring s = ring_of (is_rx ring) s
 
@@ -46,19 +50,23 @@ at_ring ring change s = with_ring (is_rx ring) (change (ring_at ring s)) s
 
 -- Features.
 
--- 5.1.3, 6: the features that the device offers: a frame in several chains, indirect tables, event indexes, VIRTIO 1
+-- 5.1.3: a frame may take several receive chains
 abbrev pub mrg_rxbuf : ℕ
 mrg_rxbuf = 2 ^ 15
 
+-- 6: a descriptor may refer to a table of others
 abbrev pub indirect_desc : ℕ
 indirect_desc = 2 ^ 28
 
+-- 6: each side says by an index when it wants a notice
 abbrev pub event_idx : ℕ
 event_idx = 2 ^ 29
 
+-- 6: the device follows VIRTIO 1
 abbrev pub version_one : ℕ
 version_one = 2 ^ 32
 
+-- the features that the device offers
 abbrev pub offered : ℕ
 offered = mrg_rxbuf + indirect_desc + event_idx + version_one
 

@@ -1,10 +1,13 @@
 //! What holds of a device, as contracts of functions that do nothing.
 ghost use Rattle.vhost_dev.specs.Laws.{SizesStay, ReadyIsGood, BackedKeepLayout, BackedStayGood, StoppedStays};
+ghost use Rattle.vhost_dev.specs.Lists.{CallsKeepOrder, ServingKeepsOrder};
 ghost use Rattle.vhost_dev.specs.Examples.{NumbersAreLookedAt, AddressesAreLookedAt, BackedRingsAreBusy, HeadersAreCompared, UsualStart};
+
+use vhost_queue::positions_stay_in_order;
 
 /// What is ready for a backend lies in the memory, and stays there while the ring has one, since no
 /// call changes its layout; and a stopped ring stays stopped over each call but one that sets its
-/// backend.
+/// backend and isn't refused.
 pub fn rings_stay_good()
     ensures sizes { SizesStay }
     ensures ready { ReadyIsGood }
@@ -12,6 +15,15 @@ pub fn rings_stay_good()
     ensures good { BackedStayGood }
     ensures stopped { StoppedStays }
 {}
+
+/// The lists of positions of a ring follow one another, and each is published in its order: each call
+/// keeps them so, and so does whatever a lent queue is used for that keeps the last of them in order.
+pub fn lists_stay_in_order()
+    ensures calls { CallsKeepOrder }
+    ensures serving { ServingKeepsOrder }
+{
+    positions_stay_in_order();
+}
 
 /// The calls on worked examples: refusals in their order, and the usual start of a queue pair.
 pub fn worked_examples()

@@ -6,7 +6,8 @@
 //! `specs/Refusals.antt` why a call is refused, the first reason first, and `specs/Calls.antt` each call
 //! as a function of the settings and the memory, which its contract names. A call that changes a ring
 //! has the condition that nothing of it is served and not published, which `queue` lets a caller look at.
-//! `specs/Laws.antt` says what holds over all calls, and `specs/Examples.antt` has worked examples.
+//! `specs/Laws.antt` and `specs/Lists.antt` say what holds over all calls, and `specs/Examples.antt` has
+//! worked examples.
 #![tactic(auto)]
 
 mod checks;
@@ -17,7 +18,7 @@ mod ring;
 
 pub use crate::device::VhostDev;
 pub use crate::error::VhostErr;
-pub use crate::laws::{rings_stay_good, worked_examples};
+pub use crate::laws::{lists_stay_in_order, rings_stay_good, worked_examples};
 
 #[cfg(test)]
 mod tests;

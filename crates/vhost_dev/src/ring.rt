@@ -180,6 +180,7 @@ impl Ring {
         requires { back_refusal mem.now self.old.ring ≡ None }
         ensures { self.new ≡ record self.old { ring = backed file mem.now self.old.ring } }
     {
+        // The layout tells that the queue size is one, which a good ring needs.
         let _layout = self.vq.layout();
         self.vq.start(mem);
         self.file = Some(file);

@@ -1,0 +1,12 @@
+pub mod Ring
+pub mod ReceiveImage
+pub mod TransmitBytes
+pub mod Turn
+pub mod TxTurn
+pub mod RxTurn
+pub mod Example
+pub mod TxExamples
+pub mod RxExamples
+pub mod RxGathering
+pub mod RxPublishing
+pub mod TxCases
