@@ -55,6 +55,40 @@ fn post(rt: &impl Abort, driver: &mut Driver, mem: &mut Memory) -> Result<u16, F
     Ok(driver.post_out(mem, &[7; 26]).map_err(|_| "posted")?)
 }
 
+fn post_all(rt: &impl Abort, driver: &mut Driver, mem: &mut Memory) -> Result<(), Fail> {
+    for i in 0..300u16 {
+        assert_eq!(rt; post(rt, driver, mem)?, i);
+    }
+    Ok(())
+}
+
+// Serves 300 chains, published at every 64 and at the end, and finds no more.
+fn serve_all(rt: &impl Abort, dev: &mut VhostDev, mem: &mut Memory, room: &mut Segments) {
+    for i in 0..300u16 {
+        assert!(rt; serve(rt, dev, mem, room));
+        if i % 64 == 63 {
+            assert!(rt; publish(rt, dev, mem));
+        }
+    }
+    assert!(rt; !serve(rt, dev, mem, room));
+    assert!(rt; publish(rt, dev, mem));
+}
+
+// The journal has them at their positions.
+fn look(rt: &impl Abort, dev: &VhostDev) {
+    let journal = dev.queue(false).journal();
+    assert_eq!(rt; journal.len(), 300);
+    assert_eq!(rt; journal[299], (299, 299, 0));
+    assert_eq!(rt; dev.get_base(1), Ok(300));
+}
+
+fn harvest_all(rt: &impl Abort, driver: &mut Driver, mem: &mut Memory) -> Result<(), Fail> {
+    assert!(rt; driver.has_area(mem));
+    let found = driver.harvest(mem).map_err(|_| "lawful")?;
+    assert_eq!(rt; found.len(), 300);
+    Ok(())
+}
+
 // 300 chains are served in their order, published at every 64, and harvested.
 #[test]
 fn three_hundred_chains(rt: HostRuntime) -> Result<(), Fail> {
@@ -67,23 +101,8 @@ fn three_hundred_chains(rt: HostRuntime) -> Result<(), Fail> {
     let mut driver = Driver::new(rt.alloc(), &mem, 0, NUM, false).map_err(|_| "there")?;
     let mut dev = device(&rt, rt.alloc(), &mem)?;
     let mut room = Segments::new(rt.alloc())?;
-    for i in 0..300u16 {
-        assert_eq!(rt; post(&rt, &mut driver, &mut mem)?, i);
-    }
-    for i in 0..300u16 {
-        assert!(rt; serve(&rt, &mut dev, &mem, &mut room));
-        if i % 64 == 63 {
-            assert!(rt; publish(&rt, &mut dev, &mut mem));
-        }
-    }
-    assert!(rt; !serve(&rt, &mut dev, &mem, &mut room));
-    assert!(rt; publish(&rt, &mut dev, &mut mem));
-    let journal = dev.queue(false).journal();
-    assert_eq!(rt; journal.len(), 300);
-    assert_eq!(rt; journal.last(), Some(&(299, 299, 0)));
-    assert_eq!(rt; dev.get_base(1), Ok(300));
-    assert!(rt; driver.has_area(&mem));
-    let found = driver.harvest(&mut mem).map_err(|_| "lawful")?;
-    assert_eq!(rt; found.len(), 300);
-    Ok(())
+    post_all(&rt, &mut driver, &mut mem)?;
+    serve_all(&rt, &mut dev, &mut mem, &mut room);
+    look(&rt, &dev);
+    harvest_all(&rt, &mut driver, &mut mem)
 }
