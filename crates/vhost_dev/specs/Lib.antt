@@ -7,3 +7,4 @@ pub mod Device
 pub mod KeptRing
 pub mod Kept
 pub mod Lending
+pub mod Lists

@@ -1,6 +1,9 @@
 //! What holds of a device, as contracts of functions that do nothing.
 ghost use Rattle.vhost_dev.specs.Laws.{SizesStay, ReadyIsGood, BackedKeepLayout, BackedStayGood, StoppedStays};
+ghost use Rattle.vhost_dev.specs.Lists.{BeginOrdered, CallsKeepOrder, QueuesKeepOrder};
 ghost use Rattle.vhost_dev.specs.Examples.{NumbersAreLookedAt, AddressesAreLookedAt, BackedRingsAreBusy, HeadersAreCompared, UsualStart};
+
+use vhost_queue::positions_stay_in_order;
 
 /// What is ready for a backend lies in the memory, and stays there while the ring has one, since no
 /// call changes its layout; and a stopped ring stays stopped over each call but one that sets its
@@ -12,6 +15,16 @@ pub fn rings_stay_good()
     ensures good { BackedStayGood }
     ensures stopped { StoppedStays }
 {}
+
+/// The lists of positions of a ring stay in order, those that ended and the one that goes on, whatever
+/// the calls make of the settings and a worker of the queue.
+pub fn lists_stay_in_order()
+    ensures begin { BeginOrdered }
+    ensures calls { CallsKeepOrder }
+    ensures queues { QueuesKeepOrder }
+{
+    positions_stay_in_order();
+}
 
 /// The calls on worked examples: refusals in their order, and the usual start of a queue pair.
 pub fn worked_examples()

@@ -17,7 +17,7 @@ mod ring;
 
 pub use crate::device::VhostDev;
 pub use crate::error::VhostErr;
-pub use crate::laws::{rings_stay_good, worked_examples};
+pub use crate::laws::{lists_stay_in_order, rings_stay_good, worked_examples};
 
 #[cfg(test)]
 mod tests;
