@@ -3,15 +3,11 @@ use Rattle.std.proofs.Common.{◌≡◌, ℕ, zero, suc, ◌+◌, ◌<◌, ◌�
 use Rattle.std.specs.Prelude.{if◌then◌else◌}
 use Rattle.std.proofs.lemmas.Bool.Decides.{nat_tests}
 use Rattle.vring_drive.specs.Laws.{times_in}
+use Rattle.driver_laws.specs.Offers.{AreApart}
 
 -- no number stands more often than once, and each is below a bound
 abbrev pub StandOnce : ℕ → List ℕ → Type 0
 StandOnce num xs = (d : ℕ) → times_in d xs ≤ (if nat_lt d num then 1 else 0)
-
--- the same by recursion
-abbrev pub AreApart : ℕ → List ℕ → Type 0
-AreApart num [] = Unit {0}
-AreApart num (d ∷ ds) = (d < num) × (times_in d ds ≡ 0) × AreApart num ds
 
 times_in_itself : (d : ℕ) (ds : List ℕ) → times_in d (d ∷ ds) ≡ 1 + times_in d ds
 times_in_itself d ds = grind (arith, nat_tests)

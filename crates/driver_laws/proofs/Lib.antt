@@ -4,3 +4,4 @@ pub mod Ground
 pub mod Links
 pub mod Walk
 pub mod Posts
+pub mod Stay

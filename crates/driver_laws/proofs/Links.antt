@@ -12,16 +12,9 @@ use Rattle.vring_split.specs.Split.{desc_addr, desc_of, desc_bytes}
 use Rattle.vring_drive.specs.Area.{slot_len}
 use Rattle.vring_drive.specs.Laws.{times_in}
 use Rattle.vring_drive.specs.Posts.{desc_for, flags_for, linked}
-use Rattle.driver_laws.proofs.Apart.{AreApart}
+use Rattle.driver_laws.specs.Offers.{AreApart, StandLinked}
 use Rattle.driver_laws.proofs.Bytes.{written_there, at_write, before_write, behind_write}
 use Rattle.driver_laws.proofs.Ground.{Known, Ground, desc_there, slot_fits}
-
--- the descriptors of a chain stand in the ring's table
-abbrev pub StandLinked : (ℕ → Option ℕ) → Layout → Bool → List ℕ → List ℕ → Type 0
-StandLinked look l w [] lens = Unit {0}
-StandLinked look l w (d ∷ ds) lens =
-    (desc_of (bytes_at look (desc_addr l d) 16) ≡ desc_for l w d (slice_index lens 0) ds)
-    × StandLinked look l w ds (drop 1 lens)
 
 -- the lengths fit data slots
 abbrev pub Small : List ℕ → Type 0
@@ -44,7 +37,7 @@ flags_small : (w : Bool) (ds : List ℕ) → flags_for w ds < 2 ^ 16
 flags_small w ds = grind (arith, nat_tests)
 
 -- a descriptor fits its bytes
-desc_fits :
+pub desc_fits :
     {rs : List Region} (k : Known) (l : Layout) → Ground rs l → (w : Bool) (d n : ℕ) (ds : List ℕ)
     → d < l.num → n ≤ slot_len → AreApart l.num ds → DescFits (desc_for l w d n ds)
 desc_fits {rs} k l g w d n ds h small apart = record {
@@ -92,7 +85,7 @@ linked_regions l w (d ∷ ds) lens m =
     linked_regions l w ds (drop 1 lens) (written m (desc_addr l d) (desc_bytes (desc_for l w d (slice_index lens 0) ds)))
 
 -- the descriptors of a chain leave one that isn't among them
-linked_left :
+pub linked_left :
     {rs : List Region} (k : Known) (l : Layout) → Ground rs l → (w : Bool) (ds lens : List ℕ) (m : Contents) (d : ℕ)
     → m.regions ≡ rs → AreApart l.num ds → Small lens → times_in d ds ≡ 0
     → bytes_at (byte_at (linked l w ds lens m)) (desc_addr l d) 16 ≡ bytes_at (byte_at m) (desc_addr l d) 16

@@ -24,11 +24,11 @@ use Rattle.vring_drive.specs.Books.{Books, ring_of, chain_of, head_of}
 use Rattle.vring_drive.specs.Posts.{linked, offered, filled, told, full_refusal, length_refusal, full_pieces, piece_lens}
 use Rattle.vring_drive.specs.declared.error.PostErr.{PostErr}
 use Rattle.vring_drive.specs.declared.error.PostErr.TheVariants.{TooLong, Full}
-use Rattle.driver_laws.specs.Offers.{segments_for, IsReady, Finds, PostInIsFound, PostOutIsFound}
-use Rattle.driver_laws.proofs.Apart.{AreApart, StandOnce, apart_once, front_once, few_apart}
+use Rattle.driver_laws.specs.Offers.{segments_for, AreApart, StandLinked, IsReady, Finds, PostInIsFound, PostOutIsFound}
+use Rattle.driver_laws.proofs.Apart.{StandOnce, apart_once, front_once, few_apart}
 use Rattle.driver_laws.proofs.Bytes.{written_there, at_write, before_write, behind_write}
 use Rattle.driver_laws.proofs.Ground.{Known, Ground, index_there, entry_there, slot_there}
-use Rattle.driver_laws.proofs.Links.{StandLinked, Small, linked_regions, linked_stands, stands_kept}
+use Rattle.driver_laws.proofs.Links.{Small, linked_regions, linked_stands, stands_kept}
 use Rattle.driver_laws.proofs.Walk.{SlotsThere, Comes, path_found, length_segments}
 
 -- Fields.
@@ -46,7 +46,7 @@ field_written k m a n h there =
     ∙ from_le_bytes-to_le_bytes_2 n h
 
 -- and leaves what stands in front of it and behind it
-field_before :
+pub field_before :
     (k : Known) (m : Contents) (a n b size : ℕ) → covers m.regions a 2 ≡ true → b + size ≤ a
     → bytes_at (byte_at (with_field a n m)) b size ≡ bytes_at (byte_at m) b size
 unfolding with_field
@@ -54,7 +54,7 @@ field_before k m a n b size there h =
     let w = written_there k.writes m a 2 (to_le_bytes w16 n) (length_field n) there in
     before_write (byte_at m) (byte_at (written m a (to_le_bytes w16 n))) a (to_le_bytes w16 n) b size w h
 
-field_behind :
+pub field_behind :
     (k : Known) (m : Contents) (a n b size : ℕ) → covers m.regions a 2 ≡ true → a + 2 ≤ b
     → bytes_at (byte_at (with_field a n m)) b size ≡ bytes_at (byte_at m) b size
 unfolding with_field
@@ -63,18 +63,18 @@ field_behind k m a n b size there h =
     let w = written_there k.writes m a 2 (to_le_bytes w16 n) two there in
     behind_write (byte_at m) (byte_at (written m a (to_le_bytes w16 n))) a (to_le_bytes w16 n) b size w (omega arith)
 
-field_regions : (m : Contents) (a n : ℕ) → (with_field a n m).regions ≡ m.regions
+pub field_regions : (m : Contents) (a n : ℕ) → (with_field a n m).regions ≡ m.regions
 unfolding with_field
 field_regions m a n = refl
 
 -- The available ring.
 
-offered_regions : (l : Layout) (p head : ℕ) (m : Contents) → (offered l p head m).regions ≡ m.regions
+pub offered_regions : (l : Layout) (p head : ℕ) (m : Contents) → (offered l p head m).regions ≡ m.regions
 unfolding offered with_field
 offered_regions l p head m = refl
 
 -- the index behind an offer
-offered_index :
+pub offered_index :
     (k : Known) (l : Layout) (p head : ℕ) (m : Contents) → Ground m.regions l
     → avail_idx (byte_at (offered l p head m)) l ≡ after p 1
 unfolding offered avail_idx
@@ -84,7 +84,7 @@ offered_index k l p head m g =
     field_written k n (avail_idx_addr l) (after p 1) (omega arith) there
 
 -- the head that was offered
-offered_head :
+pub offered_head :
     (k : Known) (l : Layout) (p head : ℕ) (m : Contents) → Ground m.regions l → head < 2 ^ 16
     → avail_head (byte_at (offered l p head m)) l p ≡ head
 unfolding offered avail_head
@@ -95,7 +95,7 @@ offered_head k l p head m g h =
     ∙ field_written k m (avail_entry_addr l p) head h (entry_there k l g p)
 
 -- the table stays
-offered_table :
+pub offered_table :
     (k : Known) (l : Layout) (p head : ℕ) (m : Contents) → Ground m.regions l → (d : ℕ) → d < l.num
     → bytes_at (byte_at (offered l p head m)) (desc_addr l d) 16 ≡ bytes_at (byte_at m) (desc_addr l d) 16
 unfolding offered
@@ -115,7 +115,7 @@ fetched_step places told head end = elim told [
   | None ↦ told_by_path places head end
 ]
 
-fetched_by :
+pub fetched_by :
     (look : Look) (covers : Cover) (l : Layout) (p places index head : ℕ) (segments : List Segment)
     → avail_idx look l ≡ index → avail_head look l p ≡ head → told_at_once l p index head ≡ None
     → path_from look covers l head ≡ Gives segments → nat_le (length segments) places ≡ true
@@ -130,7 +130,7 @@ fetched_by look covers l p places index head segments ei eh none path fits =
     ∙ ap (told_by_path places head) path
     ∙ ap (λ (b : Bool). if b then (Chain head, segments) else (Crowded, [])) fits
 
-three_no :
+pub three_no :
     (a b c : Bool) (x y z : Option Fetched)
     → a ≡ false → b ≡ false → c ≡ false → (if a then x else (if b then y else (if c then z else None))) ≡ None
 three_no true b c x y z ha hb hc = absurd (cc)
@@ -138,16 +138,16 @@ three_no false true c x y z ha hb hc = absurd (cc)
 three_no false false true x y z ha hb hc = absurd (cc)
 three_no false false false x y z ha hb hc = refl
 
-eqb_no : (a b : ℕ) → (a ≡ b → ⊥) → (a == b) ≡ false
+pub eqb_no : (a b : ℕ) → (a ≡ b → ⊥) → (a == b) ≡ false
 eqb_no a b h = grind (arith, nat_tests)
 
-ltb_no : (a b : ℕ) → b ≤ a → nat_lt a b ≡ false
+pub ltb_no : (a b : ℕ) → b ≤ a → nat_lt a b ≡ false
 ltb_no a b h = grind (arith, nat_tests)
 
-leb_no : (a b : ℕ) → b < a → nat_le a b ≡ false
+pub leb_no : (a b : ℕ) → b < a → nat_le a b ≡ false
 leb_no a b h = grind (arith, nat_tests)
 
-leb_yes : (a b : ℕ) → a ≤ b → nat_le a b ≡ true
+pub leb_yes : (a b : ℕ) → a ≤ b → nat_le a b ≡ true
 leb_yes a b h = grind (arith, nat_tests)
 
 -- one position ahead a head in the table leads to a path
@@ -161,12 +161,12 @@ told_none l p head fits some less =
 
 -- A post.
 
-nothing_before : (w : Bool) → (not w && false) ≡ false
+pub nothing_before : (w : Bool) → (not w && false) ≡ false
 nothing_before true = refl
 nothing_before false = refl
 
 -- a list's front, of at least one
-some_front :
+pub some_front :
     (xs : List ℕ) (n : ℕ) → 0 < n → n ≤ length xs
     → (d : ℕ) × (ds : List ℕ) × (take n xs ≡ d ∷ ds) × (n ≡ length ds + 1)
 some_front xs zero some less = absurd (omega arith)
@@ -176,7 +176,7 @@ some_front (x ∷ xs) (suc n) some less =
     (x, take n xs, refl, omega arith)
 
 -- whatever a side makes of the layout
-stands_any :
+pub stands_any :
     (look : ℕ → Option ℕ) (s n : ℕ) (e i r j q w : Bool) (ds lens : List ℕ)
     → StandLinked look (layout_at s n e i r) w ds lens → StandLinked look (layout_at s n e j q) w ds lens
 stands_any look s n e i r j q w [] lens h = tt
@@ -226,11 +226,11 @@ chain_found k b m w indirect d ds lens g place apart few places small =
     (leb_yes (length (segments_for v w (d ∷ ds) lens)) 1024 (omega arith))
 
 -- the ring of a driver whose area is there
-ground_of : (b : Books) (m : Contents) → IsReady b m → 0 < b.num → Ground m.regions (ring_of b)
+pub ground_of : (b : Books) (m : Contents) → IsReady b m → 0 < b.num → Ground m.regions (ring_of b)
 ground_of b m ready some = record { some = some; size = ready.size; behind = refl; area = ready.area }
 
 -- a driver's free descriptors are kept once
-free_once : (b : Books) (m : Contents) → IsReady b m → StandOnce b.num b.free
+pub free_once : (b : Books) (m : Contents) → IsReady b m → StandOnce b.num b.free
 free_once b m ready = λ d. let whole = ready.whole.once d in omega arith
 
 post_found :
@@ -257,11 +257,11 @@ post_found k b m n w indirect lens ready some few free small same =
 
 -- What isn't refused.
 
-none_of_both : {A : Type 0} (a b : Option A) → option_or a b ≡ None → (a ≡ None) × (b ≡ None)
+pub none_of_both : {A : Type 0} (a b : Option A) → option_or a b ≡ None → (a ≡ None) × (b ≡ None)
 none_of_both None b h = (refl, h)
 none_of_both (Some x) b h = absurd (cc)
 
-mapped_none : (r : Option ℕ) → option_map TooLong r ≡ None → r ≡ None
+pub mapped_none : (r : Option ℕ) → option_map TooLong r ≡ None → r ≡ None
 mapped_none None h = refl
 mapped_none (Some n) h = absurd (cc)
 
@@ -273,13 +273,13 @@ found_none : (b : Bool) (n : ℕ) (rest : Option ℕ) → (if b then Some n else
 found_none true n rest h = absurd (cc)
 found_none false n rest h = (refl, h)
 
-small_found : (lens : List ℕ) → find (λ n. nat_lt slot_len n) lens ≡ None → Small lens
+pub small_found : (lens : List ℕ) → find (λ n. nat_lt slot_len n) lens ≡ None → Small lens
 small_found [] h = tt
 small_found (n ∷ lens) h =
     let both = found_none (nat_lt slot_len n) n (find (λ k. nat_lt slot_len k) lens) h in
     (ltb-false slot_len n both.0, small_found lens both.1)
 
-enough : (need : ℕ) (b : Books) → full_refusal need b ≡ None → need ≤ length b.free
+pub enough : (need : ℕ) (b : Books) → full_refusal need b ≡ None → need ≤ length b.free
 enough need b h = ltb-false (length b.free) need (none_if (nat_lt (length b.free) need) (Full (told need) (told (length b.free))) h)
 
 pub post_in_found : Known → PostInIsFound
@@ -290,15 +290,15 @@ post_in_found k b m lens indirect ready some few none =
 
 -- Pieces of bytes.
 
-pieces_small : (q r : ℕ) → r ≤ slot_len → Small (replicate q slot_len ++ r ∷ [])
+pub pieces_small : (q r : ℕ) → r ≤ slot_len → Small (replicate q slot_len ++ r ∷ [])
 pieces_small zero r h = (h, tt)
 pieces_small (suc q) r h = (omega arith, pieces_small q r h)
 
-pieces_count : (q r : ℕ) → length (replicate q slot_len ++ r ∷ []) ≡ q + 1
+pub pieces_count : (q r : ℕ) → length (replicate q slot_len ++ r ∷ []) ≡ q + 1
 pieces_count zero r = refl
 pieces_count (suc q) r = let rest = pieces_count q r in omega arith
 
-filled_regions : (l : Layout) (ds bytes : List ℕ) (m : Contents) → (filled l ds bytes m).regions ≡ m.regions
+pub filled_regions : (l : Layout) (ds bytes : List ℕ) (m : Contents) → (filled l ds bytes m).regions ≡ m.regions
 unfolding filled
 filled_regions l [] bytes m = refl
 filled_regions l (d ∷ ds) bytes m = filled_regions l ds (drop slot_len bytes) (written m (slot_at l d) (take slot_len bytes))

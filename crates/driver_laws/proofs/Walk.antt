@@ -16,9 +16,8 @@ use Rattle.vring_walk.specs.Fetched.{PathEnd, path_end}
 use Rattle.vring_walk.specs.Fetched.PathEnd.{Breaks, Gives}
 use Rattle.vring_drive.specs.Area.{slot_len, slot_at}
 use Rattle.vring_drive.specs.Posts.{flags_for}
-use Rattle.driver_laws.specs.Offers.{segments_for}
-use Rattle.driver_laws.proofs.Apart.{AreApart}
-use Rattle.driver_laws.proofs.Links.{StandLinked, Small, small_first, small_rest}
+use Rattle.driver_laws.specs.Offers.{segments_for, AreApart, StandLinked}
+use Rattle.driver_laws.proofs.Links.{Small, small_first, small_rest}
 
 -- no rule is broken by a descriptor of the ring's own table, where these tests say so
 none_broken :

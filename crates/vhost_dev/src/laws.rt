@@ -1,6 +1,6 @@
 //! What holds of a device, as contracts of functions that do nothing.
 ghost use Rattle.vhost_dev.specs.Laws.{SizesStay, ReadyIsGood, BackedKeepLayout, BackedStayGood, StoppedStays};
-ghost use Rattle.vhost_dev.specs.Lists.{CallsKeepOrder, ServingKeepsOrder};
+ghost use Rattle.vhost_dev.specs.Lists.{BeginOrdered, CallsKeepOrder, QueuesKeepOrder};
 ghost use Rattle.vhost_dev.specs.Examples.{NumbersAreLookedAt, AddressesAreLookedAt, BackedRingsAreBusy, HeadersAreCompared, UsualStart};
 
 use vhost_queue::positions_stay_in_order;
@@ -16,11 +16,12 @@ pub fn rings_stay_good()
     ensures stopped { StoppedStays }
 {}
 
-/// The lists of positions of a ring follow one another, and each is published in its order: each call
-/// keeps them so, and so does whatever a lent queue is used for that keeps the last of them in order.
+/// The lists of positions of a ring stay in order, those that ended and the one that goes on, whatever
+/// the calls make of the settings and a worker of the queue.
 pub fn lists_stay_in_order()
+    ensures begin { BeginOrdered }
     ensures calls { CallsKeepOrder }
-    ensures serving { ServingKeepsOrder }
+    ensures queues { QueuesKeepOrder }
 {
     positions_stay_in_order();
 }
