@@ -5,3 +5,4 @@ pub mod Links
 pub mod Walk
 pub mod Posts
 pub mod Stay
+pub mod Read

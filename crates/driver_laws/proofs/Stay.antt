@@ -73,7 +73,7 @@ offer_found k = offer_at k
 -- A post offers.
 
 -- the new chain's descriptors
-chain_apart :
+pub chain_apart :
     (b : Books) (m : Contents) → IsReady b m → (n : ℕ) → n ≤ length b.free
     → AreApart b.num (chain_of n b) × (n ≤ b.num)
 chain_apart b m ready n free =
@@ -110,7 +110,7 @@ room_small b lens none =
     (small_found lens (mapped_none (find (λ n. nat_lt slot_len n) lens) both.0), enough (length lens) b both.1)
 
 -- and one of bytes
-bytes_small :
+pub bytes_small :
     (b : Books) (len : ℕ) → post_out_refusal len b ≡ None
     → Small (piece_lens len) × (0 < length (piece_lens len)) × (length (piece_lens len) ≤ length b.free)
 bytes_small b len none =
@@ -133,7 +133,7 @@ posts_offer k = λ b m ready. (
 -- Other offers stay.
 
 -- what stands behind the table stays where descriptors are written
-linked_behind :
+pub linked_behind :
     {rs : List Region} (k : Known) (l : Layout) → Ground rs l → (w : Bool) (ds lens : List ℕ) (m : Contents) (a n : ℕ)
     → m.regions ≡ rs → AreApart l.num ds → Small lens → l.desc + 16 * l.num ≤ a
     → bytes_at (byte_at (linked l w ds lens m)) a n ≡ bytes_at (byte_at m) a n
@@ -169,7 +169,7 @@ filled_front {rs} k l g (d ∷ ds) bytes m a n same apart far =
     ∙ before_write (byte_at m) (byte_at new) (slot_at l d) part a n wrote (omega arith)
 
 -- an entry of the available ring stays where another one is written
-other_entry :
+pub other_entry :
     (k : Known) (l : Layout) (p head : ℕ) (m : Contents) → Ground m.regions l → (position : ℕ)
     → (position % l.num ≡ p % l.num → ⊥)
     → bytes_at (byte_at (offered l p head m)) (avail_entry_addr l position) 2

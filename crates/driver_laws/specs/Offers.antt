@@ -2,6 +2,7 @@
 use Rattle.std.specs.Prelude.{◌≡◌, ◌≢◌, ◌%◌, ℕ, ◌^◌, ◌<◌, ◌≤◌, Bool, true, false, List, [], ◌∷◌, length, drop, slice_index, Option, None}
 use Rattle.std.specs.List.{AllByRecursion}
 use Rattle.guest_mem.specs.Memory.{Contents, byte_at, bytes_at, covers}
+use Rattle.guest_mem.specs.Regions.{IsSound}
 use Rattle.vring_split.specs.declared.layout.Layout.{Layout}
 use Rattle.vring_split.specs.declared.segment.Segment.{Segment}
 use Rattle.vring_split.specs.Split.{desc_addr, desc_of, distance}
@@ -13,6 +14,7 @@ use Rattle.vring_drive.specs.Harvests.{harvested_in}
 use Rattle.vring_walk.specs.declared.walk.Fetched.TheVariants.{Chain}
 use Rattle.vring_walk.specs.Fetch.{avail_idx, avail_head}
 use Rattle.vring_walk.specs.Fetched.{fetched}
+use Rattle.vring_walk.specs.Spread.{gathered}
 
 -- each of these is a descriptor of a ring of this size, and none stands twice
 abbrev pub AreApart : ℕ → List ℕ → Type 0
@@ -70,6 +72,15 @@ PostOutIsFound =
     (b : Books) (m : Contents) (bytes : List ℕ) (indirect : Bool)
     → IsReady b m → full_pieces (length bytes) < 1024 → post_out_refusal (length bytes) b ≡ None
     → Finds b (posted_out b bytes m) (layout_at b.start b.num b.event indirect false) false (piece_lens (length bytes))
+
+-- and the segments of those bytes have them, one after the other
+abbrev pub PostOutIsRead : Type 0
+PostOutIsRead =
+    (b : Books) (m : Contents) (bytes : List ℕ) (indirect : Bool)
+    → IsReady b m → IsSound m → post_out_refusal (length bytes) b ≡ None
+    → let lens = piece_lens (length bytes) in
+    gathered (posted_out b bytes m).bytes
+    (segments_for (layout_at b.start b.num b.event indirect false) false (chain_of (length lens) b) lens) ≡ bytes
 
 -- What is on offer.
 

@@ -2,17 +2,20 @@
 //! nothing; `specs/Offers.antt` has the statements.
 #![tactic(auto)]
 
-ghost use Rattle.driver_laws.specs.Offers.{PostInIsFound, PostOutIsFound, OfferIsFound, PostsOffer, PostsLeaveOffers, HarvestsLeaveOffers};
+ghost use Rattle.driver_laws.specs.Offers.{PostInIsFound, PostOutIsFound, PostOutIsRead, OfferIsFound, PostsOffer, PostsLeaveOffers, HarvestsLeaveOffers};
 
-use guest_mem::{range_laws, write_laws};
+use guest_mem::{byte_laws, range_laws, write_laws};
 use vring_split::field_laws;
 
 /// What a driver posts is the next chain that a device finds at the driver's place, with the head that
-/// the post told, and the posted pieces as its segments.
+/// the post told, and the posted pieces as its segments; and what a device reads from the segments of
+/// posted bytes are these bytes.
 pub fn posts_are_found()
     ensures posted_in { PostInIsFound }
     ensures posted_out { PostOutIsFound }
+    ensures read { PostOutIsRead }
 {
+    byte_laws();
     range_laws();
     write_laws();
     field_laws();

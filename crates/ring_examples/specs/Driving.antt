@@ -46,20 +46,24 @@ abbrev pub PostIsWritten : Type 0
 PostIsWritten =
     (posted_in four (40 ∷ []) small_memory).bytes ≡ (0, 128) ∷ (8, 40) ∷ (12, 2) ∷ (66, 1) ∷ []
 
--- the memory with a used entry at each of the first places, and the used index behind them
-abbrev pub with_used : List (ℕ × ℕ) → Contents
-with_used entries = with_field (used_idx_addr (ring_of four)) 2 (put 0 entries (posted_in four (40 ∷ []) small_memory)) where
-  put : ℕ → List (ℕ × ℕ) → Contents → Contents
-  put place [] m = m
-  put place (e ∷ es) m =
-      put (place + 1) es (written m (used_entry_addr (ring_of four) place) (used_elem_bytes (record { id = e.0; len = e.1 })))
+-- a memory with used entries, from a place on
+abbrev pub with_entries : ℕ → List (ℕ × ℕ) → Contents → Contents
+with_entries place [] m = m
+with_entries place (e ∷ es) m =
+    let entry = used_elem_bytes (record { id = e.0; len = e.1 }) in
+    with_entries (place + 1) es (written m (used_entry_addr (ring_of four) place) entry)
+
+-- the memory after that post with two used entries, and the used index behind them
+abbrev pub with_used : ℕ × ℕ → ℕ × ℕ → Contents
+with_used e f =
+    with_field (used_idx_addr (ring_of four)) 2 (with_entries 0 (e ∷ f ∷ []) (posted_in four (40 ∷ []) small_memory))
 
 -- with nothing used nothing is found, but the driver says that it wants a notice; an entry whose head isn't out ends a
 -- harvest, what came before it stays taken back, and used_event isn't moved
 abbrev pub StrayEnds : Type 0
 StrayEnds =
     (harvested small_memory posted ≡ record { books = posted; found = []; stray = None })
-    × (harvested (with_used ((0, 9) ∷ (3, 0) ∷ [])) posted
+    × (harvested (with_used (0, 9) (3, 0)) posted
     ≡ record { books = taken_back 0 (0 ∷ []) posted; found = (0, 9) ∷ []; stray = Some 3 })
-    × (harvested_in (with_used ((0, 9) ∷ (3, 0) ∷ [])) posted ≡ with_used ((0, 9) ∷ (3, 0) ∷ []))
+    × (harvested_in (with_used (0, 9) (3, 0)) posted ≡ with_used (0, 9) (3, 0))
     × ((taken_back 0 (0 ∷ []) posted).free ≡ 0 ∷ 1 ∷ 2 ∷ 3 ∷ [])
