@@ -1,0 +1,5 @@
+pub mod GateWord
+pub mod Moments
+pub mod Standing
+pub mod Steps
+pub mod Calls
