@@ -45,10 +45,10 @@ module _ (plan : Plan) where
     more = [];
     log = sym (append-nil h.log);
     slots = refl;
-    consumer = refl;
+    consumer = λ _. refl;
     keeper = refl;
     front = λ _. (refl, refl, (λ e. e));
-    gate = λ _. (refl, refl, refl, (λ _. refl), refl);
+    gate = λ _. (refl, refl, refl, (λ _. refl), (λ _. refl));
     putting = λ j c ne e low word. (low, word);
   }
 
@@ -123,7 +123,7 @@ module _ (plan : Plan) where
   pub loaded : (s : RingState) (i : ℕ) (views : List View) → Ring plan (record s { views = views }) → Ring plan (record { words = slice_set s.words i (slice_index s.words i); homes = s.homes; views = views })
   loaded s i views r = subst (λ ws. Ring plan (record { words = ws; homes = s.homes; views = views })) (sym (set-get_or s.words i 0)) r
 
-  gate_knows : (s : RingState) (r : Ring plan s) (by : ℕ) (v : View) → Knows plan s r.h by v → Knows plan (record s { views = set s.views by (seen_gate r.h.now v) }) r.h by (seen_gate r.h.now v)
+  pub gate_knows : (s : RingState) (r : Ring plan s) (by : ℕ) (v : View) → Knows plan s r.h by v → Knows plan (record s { views = set s.views by (seen_gate r.h.now v) }) r.h by (seen_gate r.h.now v)
   gate_knows s r by v k = record {
     claims = record { mine = k.claims.mine; idle = k.claims.idle; putting = k.claims.putting };
     front = λ t. let f = k.front t in record { own = f.own; next = f.next; freed = f.freed; count = f.count; frames = f.frames; hand = f.hand };

@@ -1,5 +1,5 @@
 -- What a step leaves as it was: other seats' knowledge, and places that it doesn't touch.
-use Rattle.std.proofs.Common.{◌≡◌, ◌≢◌, ◌⊎◌, ℕ, zero, suc, ◌+◌, ◌%◌, ◌≤◌, ◌<◌, List, [], ◌∷◌, ◌++◌, map, take, length, set, get_or, Some, None, Option, Bool, true, false, refl, sym, ap, ◌∙◌, subst, ⊎_elim, inl, inr, le_trans, le_refl, arith, length-append, length-set}
+use Rattle.std.proofs.Common.{◌≡◌, ◌≢◌, ◌⊎◌, ℕ, zero, suc, ◌+◌, ◌%◌, ◌^◌, ◌≤◌, ◌<◌, List, [], ◌∷◌, ◌++◌, map, take, length, set, get_or, Some, None, Option, Bool, true, false, refl, sym, ap, ◌∙◌, subst, ⊎_elim, inl, inr, le_trans, le_refl, arith, length-append, length-set}
 use Rattle.std.specs.Prelude.{slice_index, slice_set}
 use Rattle.std.proofs.lemmas.List.{append-nil, length-map, map-append}
 use mathlib.Core.Option.{none, some, some-ne-none, some-injective}
@@ -21,15 +21,15 @@ pub record Apart (first : ℕ) (s s' : RingState) (h h' : Standing) (by : ℕ) :
   pub more : List Placing
   pub log : h'.log ≡ h.log ++ more
   pub slots : slots_of s' ≡ slots_of s
-  pub consumer : h'.consumer ≡ h.consumer
+  pub consumer : h.consumer ≢ by → h'.consumer ≡ h.consumer
   pub keeper : h'.keeper ≡ h.keeper
   pub front : h.consumer ≢ by → (h'.now.freed ≡ h.now.freed) × (h'.lifted ≡ h.lifted) × (word_at s h.lifted ≡ h.lifted + 1 → word_at s' h.lifted ≡ h.lifted + 1)
   pub gate : h.keeper ≢ by → (h.now.shut ≡ h'.now.shut) × (h.now.epoch ≡ h'.now.epoch) × (h.now.resizes ≡ h'.now.resizes)
-      × (h.now.shut ≡ true → h.now.claimed ≡ h'.now.claimed) × (capacity_at s'.words (h.now.resizes + 1) ≡ capacity_at s.words (h.now.resizes + 1))
+      × (h.now.shut ≡ true → h.now.claimed ≡ h'.now.claimed) × (h.now.resizes + 1 < 2 ^ 7 → capacity_at s'.words (h.now.resizes + 1) ≡ capacity_at s.words (h.now.resizes + 1))
   pub putting : (j : ℕ) (c : Claim) → j ≢ by → IsEntered first h.log c.place (record { by = j; claim = c }) → h.lifted ≤ c.place → word_at s c.place ≤ c.place
       → (h'.lifted ≤ c.place) × (word_at s' c.place ≤ c.place)
 
-entered_in : (first : ℕ) (log log' more : List Placing) (p : ℕ) (x : Placing) → log' ≡ log ++ more → IsEntered first log p x → IsEntered first log' p x
+pub entered_in : (first : ℕ) (log log' more : List Placing) (p : ℕ) (x : Placing) → log' ≡ log ++ more → IsEntered first log p x → IsEntered first log' p x
 entered_in first log log' more p x is e = subst (λ l. IsEntered first l p x) (sym is) (entered_longer first log more p x e)
 
 pub claims_apart : (plan : Plan) (s s' : RingState) (h h' : Standing) (by j : ℕ) (v : View) → Apart plan.first s s' h h' by → j ≢ by → KnowsClaims plan s h j v → KnowsClaims plan s' h' j v
@@ -58,7 +58,7 @@ front_apart plan s s' r h' by j v a ne k =
     let behind = r.behind in
     let long = r.long in
     record {
-      own = k.own ∙ sym a.consumer;
+      own = k.own ∙ sym (a.consumer away);
       next = k.next ∙ sym same.1;
       freed = k.freed ∙ sym same.0;
       count = same.1 ∙ k.count;
@@ -80,7 +80,7 @@ gate_apart plan s s' h h' by j v a ne k =
       epoch = k.epoch ∙ same.1;
       resizes = k.resizes ∙ same.2;
       claimed = λ e. k.claimed e ∙ same.3 (sym k.shut ∙ e);
-      stored = λ c is. let t = k.stored c is in (ap (λ n. capacity_at s'.words (n + 1)) (sym same.2) ∙ same.4 ∙ t.0, subst (λ n. c ≤ n) (sym a.slots) t.1);
+      stored = λ c is. let t = k.stored c is in (subst (λ n. n + 1 < 2 ^ 7) same.2 t.0, ap (λ n. capacity_at s'.words (n + 1)) (sym same.2) ∙ same.4 t.0 ∙ t.1, subst (λ n. c ≤ n) (sym a.slots) t.2);
     }
 
 pub knows_apart : (plan : Plan) (s s' : RingState) (r : Ring plan s) (h' : Standing) (by j : ℕ) (v : View) → Apart plan.first s s' r.h h' by → j ≢ by → Knows plan s r.h j v → Knows plan s' h' j v
@@ -102,6 +102,12 @@ seats_set plan s s' r h' by w is a mine j u at = ⊎_elim
     (at_set s.views by j w u (sym (ap (λ l. get_elem? l j) is) ∙ at))
 
 -- ---- places
+
+pub word_same : (s s' : RingState) (p : ℕ) → slots_of s' ≡ slots_of s → slice_index s'.words (130 + slot_at s p) ≡ slice_index s.words (130 + slot_at s p) → word_at s' p ≡ word_at s p
+word_same s s' p slots same = ap (λ n. slice_index s'.words (130 + p % n)) slots ∙ same
+
+pub home_same : (s s' : RingState) (p : ℕ) → slots_of s' ≡ slots_of s → get_elem? s'.homes (slot_at s p) ≡ get_elem? s.homes (slot_at s p) → home_at s' p ≡ home_at s p
+home_same s s' p slots same = ap (λ n. get_elem? s'.homes (p % n)) slots ∙ same
 
 -- a seat that is putting this claim is putting it still
 abbrev pub Still : RingState → RingState → ℕ → Type 0

@@ -1,7 +1,7 @@
 -- This project's own: the rule of a ring, which holds between any two steps.
 -- Word 0 is the gate, word 1 the freed count, words 2 to 129 the capacity of each number of resizes, and from word
 -- 130 on stands one word a place. The place p has the slot p % slots, and its word is p + 1 once its frame was put.
-use Rattle.std.specs.Prelude.{◌≡◌, ℕ, ◌+◌, ◌%◌, ◌<◌, ◌≤◌, ◌==◌, ◌⊎◌, nat_lt, if◌then◌else◌, Bool, true, false, List, [], ◌∷◌, map, take, length, slice_index, Option, Some, None}
+use Rattle.std.specs.Prelude.{◌≡◌, ℕ, ◌+◌, ◌%◌, ◌^◌, ◌<◌, ◌≤◌, ◌==◌, ◌⊎◌, nat_lt, if◌then◌else◌, Bool, true, false, List, [], ◌∷◌, map, take, length, slice_index, Option, Some, None}
 use mathlib.Core.Option.{some, none}
 use mathlib.Core.Option as maybe
 use lib.ListN.{get_elem?}
@@ -116,7 +116,8 @@ module _ (plan : Plan) (s : RingState) (h : Standing) (j : ℕ) (v : View) where
     pub epoch : v.gate.epoch ≡ h.now.epoch
     pub resizes : v.gate.resizes ≡ h.now.resizes
     pub claimed : v.gate.shut ≡ true → v.gate.claimed ≡ h.now.claimed
-    pub stored : (c : ℕ) → v.stored ≡ Some c → (capacity_at s.words (h.now.resizes + 1) ≡ c) × (c ≤ slots_of s)
+    pub stored : (c : ℕ) → v.stored ≡ Some c
+        → (h.now.resizes + 1 < 2 ^ 7) × (capacity_at s.words (h.now.resizes + 1) ≡ c) × (c ≤ slots_of s)
 
   -- what a seat knows
   pub record Knows : Type 0 where
