@@ -9,7 +9,7 @@ use Rattle.atomic_table.proofs.Lists.{at_set, at_longer, set_else, one_turn}
 use Rattle.tap_ring.specs.declared.rule.Moment.{Moment}
 use Rattle.tap_ring.specs.declared.rule.Claim.{Claim}
 use Rattle.tap_ring.specs.declared.rule.View.{View}
-use Rattle.tap_ring.specs.GateWord.{bit, gate_word}
+use Rattle.tap_ring.specs.GateWord.{bit, gate_word, GateLaws}
 use Rattle.tap_ring.specs.Moments.{Fits, IsLater, IsPast, gate_of, capacity_at}
 use Rattle.tap_ring.specs.Standing.{Placing, EachClaim, IsEntered, times, total, within}
 
@@ -166,3 +166,13 @@ slots_apart n low p q a b c d ne e = go (ltb p q) refl
     go : (b : Bool) → ltb p q ≡ b → ⊥
     go true t = let lt = ltb-true p q t in ne (one_turn p q n (omega (arith, lt)) (omega (arith, a, d)) e)
     go false t = let ge = ltb-false p q t in ne (sym (one_turn q p n (omega (arith, ge)) (omega (arith, b, c)) (sym e)))
+
+pub gate_parts : GateLaws
+gate_parts claimed true epoch resizes a b c = (omega (arith, a), one (gate_word claimed true epoch resizes / 2 ^ 40 % 2) (omega (arith, a)), omega (arith, a, b), omega (arith, a, b, c))
+  where
+    one : (n : ℕ) → n ≡ 1 → (n == 1) ≡ true
+    one n e = ap (λ m. m == 1) e
+gate_parts claimed false epoch resizes a b c = (omega (arith, a), zero_is (gate_word claimed false epoch resizes / 2 ^ 40 % 2) (omega (arith, a)), omega (arith, a, b), omega (arith, a, b, c))
+  where
+    zero_is : (n : ℕ) → n ≡ 0 → (n == 1) ≡ false
+    zero_is n e = ap (λ m. m == 1) e

@@ -5,3 +5,4 @@ pub mod Claims
 pub mod Fronts
 pub mod Gates
 pub mod Tokens
+pub mod Causes

@@ -1,11 +1,14 @@
 -- This project's own: what each call of a ring promises.
-use Rattle.std.specs.Prelude.{◌≡◌, ◌≢◌, ℕ, ◌+◌, ◌^◌, ◌<◌, ◌≤◌, ◌⊎◌, Bool, true, false, List, [], ◌∷◌, ◌++◌, length, slice_get, sum_by, Some}
+use Rattle.std.specs.Prelude.{◌≡◌, ◌≢◌, ℕ, ◌+◌, ◌^◌, ◌<◌, ◌≤◌, ◌⊎◌, Bool, true, false, List, [], ◌∷◌, ◌++◌, length, slice_get, sum_by, Some, None}
 use Rattle.atomic_table.specs.Seated.{TableId}
 use Rattle.tap_frame.specs.Frame.{FrameValue}
 use Rattle.tap_ring.specs.declared.rule.Moment.{Moment}
 use Rattle.tap_ring.specs.declared.rule.Claim.{Claim}
 use Rattle.tap_ring.specs.declared.rule.View.{View}
 use Rattle.tap_ring.specs.declared.rule.Plan.{Plan}
+use Rattle.tap_ring.specs.declared.producer.Why.{Why}
+use Rattle.tap_ring.specs.declared.producer.Why.TheVariants.{Gone, Spent, Full, Contended}
+use Rattle.tap_ring.specs.GateWord.{claimed_of, is_shut, epoch_of}
 use Rattle.tap_ring.specs.Moments.{IsLater, IsGone, IsOpen, IsSpent, IsFull, HasRoom, gate_of}
 use Rattle.tap_ring.specs.Standing.{EachClaim, times, within}
 use Rattle.tap_ring.specs.Steps.{claim}
@@ -30,6 +33,26 @@ token ring view = record { ring = ring; view = view }
 pub record SawMore (v w : View) : Type 0 where
   pub gate : IsLater v.gate w.gate
   pub room : IsLater v.room w.room
+
+-- a producer between two calls
+pub record IsProducer (v : View) : Type 0 where
+  pub parts : v.parts ≡ 1
+  pub putting : v.putting ≡ None
+  pub spent : v.spent ≡ false
+
+-- a consumer between two calls
+pub record IsConsumer (v : View) : Type 0 where
+  pub takes : v.takes ≡ true
+  pub in_hand : v.in_hand ≡ None
+  pub parts : v.parts ≡ 0
+  pub mine : v.mine ≡ []
+  pub putting : v.putting ≡ None
+  pub spent : v.spent ≡ false
+
+-- a keeper between two calls
+pub record IsKeeper (v : View) : Type 0 where
+  pub keeps : v.keeps ≡ true
+  pub spent : v.spent ≡ false
 
 -- it is the same token, with the same claims, and the same frames lifted
 pub record SameHands (v w : View) : Type 0 where
@@ -99,6 +122,37 @@ pub record IsContended (epoch expected found resizes : ℕ) (v w : View) : Type 
   pub differ : expected ≢ found
   pub resizes_is : resizes ≡ w.asked.resizes
   pub cause : (¬ FoundFull w) ⊎ (FoundFull w × (w.gate.resizes ≢ w.asked.resizes))
+
+-- why a frame comes back
+abbrev pub IsCause : ℕ → Why → ℕ → View → View → Type 0
+IsCause epoch (Gone found shut) resizes v w = IsGoneThen epoch found shut resizes v w
+IsCause epoch (Spent claimed) resizes v w = IsSpentThen epoch claimed resizes v w
+IsCause epoch (Full claimed freed) resizes v w = IsFullThen epoch claimed freed resizes v w
+IsCause epoch (Contended expected found) resizes v w = IsContended epoch expected found resizes v w
+
+-- ---- a gate word, as a producer looks at it
+
+-- it is open at this epoch, and not spent
+abbrev pub IsOpenWord : ℕ → ℕ → Type 0
+IsOpenWord epoch gate = (is_shut gate ≡ false) × (epoch_of gate ≡ epoch) × (claimed_of gate + 1 < 2 ^ 40)
+
+-- the first cause that holds of it
+abbrev pub RefusesWord : ℕ → ℕ → Why → Type 0
+RefusesWord epoch gate (Gone found shut) =
+    (found ≡ epoch_of gate) × (shut ≡ is_shut gate) × ((is_shut gate ≡ true) ⊎ (epoch_of gate ≢ epoch))
+RefusesWord epoch gate (Spent claimed) =
+    (is_shut gate ≡ false) × (epoch_of gate ≡ epoch) × (claimed_of gate + 1 ≡ 2 ^ 40) × (claimed ≡ claimed_of gate)
+RefusesWord epoch gate (Full claimed freed) = ⊥
+RefusesWord epoch gate (Contended expected found) = ⊥
+
+-- the second look at the gate, where there was no room
+abbrev pub IsSecondLook : ℕ → ℕ → Moment → Moment → Why → Type 0
+IsSecondLook gate freed asked m (Gone found shut) = ⊥
+IsSecondLook gate freed asked m (Spent claimed) = ⊥
+IsSecondLook gate freed asked m (Full claimed freed_then) =
+    (claimed ≡ asked.claimed) × (freed_then ≡ freed) × (m.resizes ≡ asked.resizes)
+IsSecondLook gate freed asked m (Contended expected found) =
+    (expected ≡ gate) × (found ≡ gate_of m) × (m.resizes ≢ asked.resizes)
 
 -- ---- to take a frame
 

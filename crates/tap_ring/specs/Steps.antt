@@ -1,5 +1,5 @@
 -- This project's own: what each kind of step tells the seat that takes it.
-use Rattle.std.specs.Prelude.{◌≡◌, ℕ, ◌+◌, ◌-◌, ◌%◌, ◌<◌, ◌≤◌, ◌==◌, Bool, true, false, List, [], ◌∷◌, ◌++◌, MatchBool, Option, Some, None}
+use Rattle.std.specs.Prelude.{◌≡◌, ◌≢◌, ℕ, ◌+◌, ◌-◌, ◌%◌, ◌<◌, ◌≤◌, ◌==◌, Bool, true, false, List, [], ◌∷◌, ◌++◌, MatchBool, Option, Some, None}
 use mathlib.Core.Option.{some, none}
 use Rattle.atomic_table.specs.Table.{Me, Step, rest}
 use Rattle.tap_frame.specs.Frame.{FrameValue}
@@ -163,3 +163,15 @@ no_plan = record { first = 0; capacity = 0; producers = 0 }
 -- who knows nothing any more
 abbrev pub spent_view : View
 spent_view = record (new_producers no_plan 0) { spent = true }
+
+-- ---- a whole claim
+
+-- the place was claimed at this moment, at which the gate was the expected one, and the frame was put there
+abbrev pub ClaimedThen : FrameValue → ℕ → View → View → Type 0
+ClaimedThen frame place v w =
+    (m : Moment) × (gate_of m ≡ gate_of v.gate) × IsNew v m × HasRoom m × EachClaim (λ c. c.place < m.claimed) v.mine
+    × (place ≡ m.claimed) × (w ≡ record (with_claim m frame v) { putting = None })
+
+-- the exchange met another gate word
+abbrev pub MissedThen : ℕ → ℕ → View → View → Type 0
+MissedThen gate found v w = (m : Moment) × (found ≡ gate_of m) × (gate ≢ found) × IsNew v m × (w ≡ seen_gate m v)

@@ -1,7 +1,14 @@
 //! A ring of frames that many senders fill without a lock.
 #![tactic(auto)]
 
+mod gate;
 mod plays;
+mod producer;
+mod ring;
 mod rule;
+mod steps;
 
+pub use gate::gate_laws;
+pub use producer::{Producer, PutBack, Why};
+pub use ring::TapRing;
 pub use rule::{Claim, Moment, Plan, View};
