@@ -394,7 +394,7 @@ module _ (plan : Plan) where
         tt,
         subst (λ (x : List ℕ × ℕ). Ring plan (record { words = x.0; homes = slice_set s.homes x.1 (some None); views = slice_set s.views by w }))
             (λ j. (sym (set-get_or s.words i 0) j, spot j)) (lifted_ring s r by v frame at takes_is hand),
-        (frame, hand, refl, refl),
+        (frame, hand, (let low = llow s r by v frame at takes_is hand in let few = r.fits.claimed in omega (arith, next, low, few)), refl, refl),
       )
 
   -- The front slot goes back, empty: the frame is lifted.

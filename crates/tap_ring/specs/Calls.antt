@@ -44,6 +44,8 @@ pub record IsProducer (v : View) : Type 0 where
 pub record IsConsumer (v : View) : Type 0 where
   pub takes : v.takes ≡ true
   pub in_hand : v.in_hand ≡ None
+  pub order : v.freed ≤ v.next
+  pub bound : v.next < 2 ^ 40
   pub parts : v.parts ≡ 0
   pub mine : v.mine ≡ []
   pub putting : v.putting ≡ None
@@ -174,6 +176,14 @@ pub record IsNotReady (place : ℕ) (v w : View) : Type 0 where
 -- one more place is free
 abbrev pub freed_one : View → View
 freed_one v = record v { freed = v.freed + 1 }
+
+-- the front frame was lifted, and one place freed
+pub record IsTaken (frame : FrameValue) (v w : View) : Type 0 where
+  pub lifted : w.lifted ≡ v.lifted ++ frame ∷ []
+  pub next : w.next ≡ v.next + 1
+  pub freed : w.freed ≡ v.freed + 1
+  pub front : w.front ≡ v.next + 1
+  pub front_loads : w.front_loads ≡ v.front_loads + 1
 
 -- ---- the gate
 

@@ -1,6 +1,7 @@
 //! A ring of frames that many senders fill without a lock.
 #![tactic(auto)]
 
+mod consumer;
 mod gate;
 mod plays;
 mod producer;
@@ -8,6 +9,7 @@ mod ring;
 mod rule;
 mod steps;
 
+pub use consumer::{Consumer, NotReady};
 pub use gate::gate_laws;
 pub use producer::{Producer, PutBack, Why};
 pub use ring::TapRing;
