@@ -8,6 +8,8 @@ use Rattle.tap_ring.specs.declared.rule.View.{View}
 use Rattle.tap_ring.specs.declared.rule.Plan.{Plan}
 use Rattle.tap_ring.specs.declared.producer.Why.{Why}
 use Rattle.tap_ring.specs.declared.producer.Why.TheVariants.{Gone, Spent, Full, Contended}
+use Rattle.tap_ring.specs.declared.keeper.Reopen.{Reopen}
+use Rattle.tap_ring.specs.declared.keeper.Reopen.TheVariants.{NotDrained, EpochsSpent}
 use Rattle.tap_ring.specs.GateWord.{claimed_of, is_shut, epoch_of}
 use Rattle.tap_ring.specs.Moments.{IsLater, IsGone, IsOpen, IsSpent, IsFull, HasRoom, gate_of}
 use Rattle.tap_ring.specs.Standing.{EachClaim, times, within}
@@ -54,6 +56,7 @@ pub record IsConsumer (v : View) : Type 0 where
 -- a keeper between two calls
 pub record IsKeeper (v : View) : Type 0 where
   pub keeps : v.keeps ≡ true
+  pub resizes : v.gate.resizes < 2 ^ 7
   pub spent : v.spent ≡ false
 
 -- it is the same token, with the same claims, and the same frames lifted
@@ -204,6 +207,11 @@ pub record IsReopened (epoch : ℕ) (v w : View) : Type 0 where
   pub epoch_is : (epoch ≡ v.gate.epoch + 1) × (w.gate.epoch ≡ epoch)
   pub claimed : w.gate.claimed ≡ v.gate.claimed
   pub resizes : w.gate.resizes ≡ v.gate.resizes
+
+-- why the gate stays shut: the two counts that the tokens keep differ; or else there is no further epoch
+abbrev pub StaysShut : View → ℕ → Reopen → Type 0
+StaysShut v freed (NotDrained claimed freed_then) = (claimed ≡ v.gate.claimed) × (freed_then ≡ freed) × (claimed ≢ freed_then)
+StaysShut v freed EpochsSpent = (v.gate.claimed ≡ freed) × (v.gate.epoch ≡ 65535)
 
 -- the next number of resizes has this capacity; the claim count is the answer
 pub record IsResized (capacity claimed : ℕ) (v w : View) : Type 0 where

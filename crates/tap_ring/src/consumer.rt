@@ -55,6 +55,15 @@ fn take_front(places: &Places, most: u16, seat: &mut RingSeat, place: u64) -> Op
     item
 }
 
+impl Consumer {
+    // The freed count.
+    pub(crate) fn freed(&self) -> u64
+        ensures { result ≡ self.now.view.freed }
+    {
+        self.freed
+    }
+}
+
 impl TapRing {
     /// Takes the front frame, and doesn't free its place. Or else says that the front place's number
     /// wasn't there.

@@ -3,6 +3,7 @@
 
 mod consumer;
 mod gate;
+mod keeper;
 mod plays;
 mod producer;
 mod ring;
@@ -11,6 +12,7 @@ mod steps;
 
 pub use consumer::{Consumer, NotReady};
 pub use gate::gate_laws;
+pub use keeper::{Keeper, Reopen, ResizesSpent};
 pub use producer::{Producer, PutBack, Why};
 pub use ring::TapRing;
 pub use rule::{Claim, Moment, Plan, View};
