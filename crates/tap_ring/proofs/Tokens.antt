@@ -29,7 +29,7 @@ use Rattle.tap_ring.proofs.Loads.{apart_same, loaded}
 use Rattle.tap_ring.proofs.Claims.{caps_apart, place_words_apart}
 use Rattle.tap_ring.specs.Standing.{frames_of}
 use Rattle.atomic_table.proofs.Lists.{at_map}
-use Rattle.tap_ring.specs.Standing.{maker, new_producers, opening_moment}
+use Rattle.tap_ring.specs.Standing.{maker, new_producers, opening_moment, first_words}
 use Rattle.tap_ring.proofs.Kit.{at_snoc_where, total_snoc}
 
 module _ (plan : Plan) where
@@ -363,3 +363,36 @@ module _ (plan : Plan) where
       parts = omega arith;
       once = λ p. let z = within_none plan.first p in omega (arith, z);
     }
+
+  zeros : (n k : ℕ) → slice_index (replicate n 0) k ≡ 0
+  zeros zero k = refl
+  zeros (suc n) zero = refl
+  zeros (suc n) (suc k) = zeros n k
+
+  abbrev blank : ℕ → List ℕ
+  blank most = replicate (130 + most) 0
+
+  abbrev with_gate : ℕ → List ℕ
+  with_gate most = set (blank most) 0 (plan.first + 2 ^ 40)
+
+  abbrev with_freed : ℕ → List ℕ
+  with_freed most = set (with_gate most) 1 plan.first
+
+  -- the ring begins by its rule
+  pub opens_words : (most : ℕ) (words : List ℕ) → words ≡ first_words most plan.first plan.capacity → 1 ≤ plan.capacity → plan.capacity ≤ most → plan.first < 2 ^ 40
+      → Ring plan (opening words (replicate most None) (maker plan))
+  opens_words most words is some_capacity small low =
+      let z = blank most in
+      let a = with_gate most in
+      let b = with_freed most in
+      let l : length z ≡ 130 + most = length-replicate (130 + most) 0 in
+      let la : length a ≡ length z = length-set z 0 (plan.first + 2 ^ 40) in
+      let lb : length b ≡ length a = length-set a 1 plan.first in
+      subst (λ ws. Ring plan (opening ws (replicate most None) (maker plan))) (sym is)
+      (opens (first_words most plan.first plan.capacity) most (omega (arith, some_capacity, small))
+      (length-set b 2 plan.capacity ∙ lb ∙ la ∙ l)
+      low small
+      (get_or-set_other b 2 0 plan.capacity 0 (λ e. omega (arith, e)) ∙ get_or-set_other a 1 0 plan.first 0 (λ e. omega (arith, e)) ∙ get_or-set_same z 0 (plan.first + 2 ^ 40) 0 (omega (arith, l)))
+      (get_or-set_other b 2 1 plan.capacity 0 (λ e. omega (arith, e)) ∙ get_or-set_same a 1 plan.first 0 (omega (arith, l, la)))
+      (get_or-set_same b 2 plan.capacity 0 (omega (arith, l, la, lb)))
+      (λ k far. get_or-set_other b 2 k plan.capacity 0 (λ e. omega (arith, e, far)) ∙ get_or-set_other a 1 k plan.first 0 (λ e. omega (arith, e, far)) ∙ get_or-set_other z 0 k (plan.first + 2 ^ 40) 0 (λ e. omega (arith, e, far)) ∙ zeros (130 + most) k))

@@ -1,7 +1,7 @@
 -- This project's own: the rule of a ring, which holds between any two steps.
 -- Word 0 is the gate, word 1 the freed count, words 2 to 129 the capacity of each number of resizes, and from word
 -- 130 on stands one word a place. The place p has the slot p % slots, and its word is p + 1 once its frame was put.
-use Rattle.std.specs.Prelude.{◌≡◌, ℕ, ◌+◌, ◌%◌, ◌^◌, ◌<◌, ◌≤◌, ◌==◌, ◌⊎◌, nat_lt, if◌then◌else◌, Bool, true, false, List, [], ◌∷◌, map, take, length, slice_index, Option, Some, None}
+use Rattle.std.specs.Prelude.{◌≡◌, ℕ, ◌+◌, ◌%◌, ◌^◌, ◌<◌, ◌≤◌, ◌==◌, ◌⊎◌, nat_lt, if◌then◌else◌, Bool, true, false, List, [], ◌∷◌, map, take, length, replicate, slice_index, slice_set, Option, Some, None}
 use mathlib.Core.Option.{some, none}
 use mathlib.Core.Option as maybe
 use lib.ListN.{get_elem?}
@@ -206,6 +206,14 @@ new_consumer plan = record (new_producers plan 0) { takes = true }
 abbrev pub new_keeper : Plan → View
 new_keeper plan = record (new_producers plan 0) { keeps = true }
 
--- the first seat is all producers, the consumer and the keeper
+-- the first seat, when it is so many producers still, and the consumer and the keeper
+abbrev pub maker_of : Plan → ℕ → View
+maker_of plan parts = record (new_producers plan parts) { takes = true; keeps = true }
+
 abbrev pub maker : Plan → View
-maker plan = record (new_producers plan plan.producers) { takes = true; keeps = true }
+maker plan = maker_of plan plan.producers
+
+-- the words of a ring that has just been made
+abbrev pub first_words : ℕ → ℕ → ℕ → List ℕ
+first_words most first capacity =
+    slice_set (slice_set (slice_set (replicate (130 + most) 0) 0 (first + 2 ^ 40)) 1 first) 2 capacity

@@ -2,7 +2,7 @@
 
 ghost use Rattle.std.specs.Prelude.{◌≡◌, ℕ, ◌+◌, ◌^◌, ◌<◌, ◌≤◌, true, [], IfSome, IfNone, IfOk, IfErr};
 ghost use Rattle.tap_frame.specs.Frame.{FrameValue};
-ghost use Rattle.tap_ring.specs.Calls.{IsConsumer, IsLifted, IsNotReady, IsTaken, freed_one};
+ghost use Rattle.tap_ring.specs.Calls.{token, IsConsumer, IsLifted, IsNotReady, IsTaken, freed_one};
 
 use crate::ring::TapRing;
 use crate::rule::{Places, RingSeat};
@@ -56,6 +56,18 @@ fn take_front(places: &Places, most: u16, seat: &mut RingSeat, place: u64) -> Op
 }
 
 impl Consumer {
+    // The consumer of a ring that has just been made.
+    pub(crate) fn new(seat: RingSeat, first: u64) -> Consumer
+        requires { IsConsumer seat.me.0 × (seat.me.1 ≡ []) × (first ≡ seat.me.0.next) × (first ≡ seat.me.0.freed) }
+        ensures { result ≡ token seat.table_id seat.me.0 }
+    {
+        Consumer {
+            seat,
+            front: first,
+            freed: first,
+        }
+    }
+
     // The freed count.
     pub(crate) fn freed(&self) -> u64
         ensures { result ≡ self.now.view.freed }

@@ -1,7 +1,7 @@
 //! The keeper shuts, reopens and resizes.
 
 ghost use Rattle.std.specs.Prelude.{◌≡◌, ℕ, ◌+◌, ◌^◌, ◌<◌, ◌≤◌, true, false, [], IfOk, IfErr};
-ghost use Rattle.tap_ring.specs.Calls.{IsKeeper, IsShutNow, IsReopened, StaysShut, IsResized};
+ghost use Rattle.tap_ring.specs.Calls.{token, IsKeeper, IsShutNow, IsReopened, StaysShut, IsResized};
 
 use crate::consumer::Consumer;
 use crate::gate::claimed_of;
@@ -45,6 +45,21 @@ pub enum Reopen {
 /// The ring has been resized 127 times.
 #[derive(Clone, Copy, Debug, PartialEq, Eq, Drop)]
 pub struct ResizesSpent;
+
+impl Keeper {
+    // The keeper of a ring that has just been made.
+    pub(crate) fn new(seat: RingSeat, first: u64) -> Keeper
+        requires { IsKeeper seat.me.0 × (seat.me.1 ≡ []) × (seat.me.0.gate.epoch ≡ 0) × (seat.me.0.gate.resizes ≡ 0) × (seat.me.0.gate.claimed ≡ first) }
+        ensures { result ≡ token seat.table_id seat.me.0 }
+    {
+        Keeper {
+            seat,
+            epoch: 0,
+            resizes: 0,
+            claimed: first,
+        }
+    }
+}
 
 impl TapRing {
     /// Shuts the gate: no place is claimed until it is reopened. Gives the claim count.

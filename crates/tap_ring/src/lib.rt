@@ -4,6 +4,7 @@
 mod consumer;
 mod gate;
 mod keeper;
+mod making;
 mod plays;
 mod producer;
 mod ring;
@@ -13,6 +14,7 @@ mod steps;
 pub use consumer::{Consumer, NotReady};
 pub use gate::gate_laws;
 pub use keeper::{Keeper, Reopen, ResizesSpent};
+pub use making::Parts;
 pub use producer::{Producer, PutBack, Why};
 pub use ring::TapRing;
 pub use rule::{Claim, Moment, Plan, View};

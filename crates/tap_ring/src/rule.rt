@@ -65,6 +65,7 @@ pub struct View {
 }
 
 /// What a ring is told once, when it is made.
+#[derive(Clone, Copy)]
 pub struct Plan {
     /// The ring's first place.
     pub first: u64,
