@@ -6,3 +6,5 @@ pub mod Fronts
 pub mod Gates
 pub mod Tokens
 pub mod Causes
+pub mod Lines
+pub mod Ends

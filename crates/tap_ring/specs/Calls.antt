@@ -1,5 +1,5 @@
 -- This project's own: what each call of a ring promises.
-use Rattle.std.specs.Prelude.{◌≡◌, ◌≢◌, ℕ, ◌+◌, ◌^◌, ◌<◌, ◌≤◌, ◌⊎◌, Bool, true, false, List, [], ◌∷◌, ◌++◌, length, slice_get, sum_by, Some, None}
+use Rattle.std.specs.Prelude.{◌≡◌, ◌≢◌, ℕ, ◌+◌, ◌^◌, ◌<◌, ◌≤◌, ◌⊎◌, Bool, true, false, List, [], ◌∷◌, ◌++◌, length, slice_get, Some, None}
 use Rattle.atomic_table.specs.Seated.{TableId}
 use Rattle.tap_frame.specs.Frame.{FrameValue}
 use Rattle.tap_ring.specs.declared.rule.Moment.{Moment}
@@ -227,7 +227,13 @@ pub record IsResized (capacity claimed : ℕ) (v w : View) : Type 0 where
 
 -- how many claims of these producers are to the place
 abbrev pub claims_to : ℕ → List Token → ℕ
-claims_to p all = sum_by (λ t. times p t.view.mine) all
+claims_to p [] = 0
+claims_to p (t ∷ ts) = times p t.view.mine + claims_to p ts
+
+-- each of the tokens is of this ring
+abbrev pub AllOfRing : TableId → List Token → Type 0
+AllOfRing ring [] = Unit {0}
+AllOfRing ring (t ∷ ts) = (t.ring ≡ ring) × AllOfRing ring ts
 
 -- this claim's frame stands in the line at its place
 abbrev pub StandsIn : ℕ → List FrameValue → Claim → Type 0

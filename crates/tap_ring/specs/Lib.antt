@@ -3,3 +3,4 @@ pub mod Moments
 pub mod Standing
 pub mod Steps
 pub mod Calls
+pub mod Leaving
