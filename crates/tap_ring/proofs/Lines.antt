@@ -1,13 +1,15 @@
 -- Lists read by number, where slots are turned into a line of frames.
 use Rattle.std.proofs.Common.{◌≡◌, ◌≢◌, ◌⊎◌, ℕ, zero, suc, ◌+◌, ◌-◌, ◌%◌, ◌≤◌, ◌<◌, ltb, List, [], ◌∷◌, ◌++◌, map, take, drop, length, Some, None, Option, Bool, true, false, refl, sym, ap, ◌∙◌, subst, arith, length-drop, mod-eq_of_lt}
-use Rattle.std.specs.Prelude.{slice_get}
+use Rattle.std.specs.Prelude.{slice_get, slice_index, slice_index_or, slice_set}
 use Rattle.std.proofs.lemmas.Bool.{ltb-true, ltb-false}
 use mathlib.Core.Option.{none, some, some-ne-none, some-injective}
 use lib.ListN.{get_elem?}
 use native.Mathlib.Nat.{add-mod_left}
 use Rattle.tap_frame.specs.Frame.{FrameValue}
 use Rattle.tap_ring.specs.Leaving.{present, slots_from}
-use Rattle.tap_ring.proofs.Kit.{some_not_none, some_is, before_end}
+use Rattle.atomic_table.specs.Seated.{TableId}
+use Rattle.tap_ring.specs.Calls.{Token, AllOfRing}
+use Rattle.tap_ring.proofs.Kit.{some_not_none, some_is, before_end, take_next}
 
 module _ {A : Type 0} where
   pub get_left : (xs ys : List A) (j : ℕ) → j < length xs → get_elem? (xs ++ ys) j ≡ get_elem? xs j
@@ -100,3 +102,49 @@ present_is (x ∷ xs) zero (f ∷ fs) before here after =
     (λ j lt long. absurd (omega (arith, lt)))
     (λ k g e. let z : suc (0 + k) ≡ 0 + suc k = omega arith in ap (get_elem? (x ∷ xs)) z ∙ here (suc k) g e)
     (λ j le long. after (suc j) (omega (arith, le)) (omega (arith, long))))
+
+pub present_parts : (xs ys : List (Option FrameValue)) → present (xs ++ ys) ≡ present xs ++ present ys
+present_parts [] ys = refl
+present_parts (None ∷ xs) ys = present_parts xs ys
+present_parts (Some f ∷ xs) ys = ap (λ l. f ∷ l) (present_parts xs ys)
+
+-- one more slot of a stretch
+pub present_more : (xs : List (Option FrameValue)) (low i : ℕ) (x : Option FrameValue) → low ≤ i → get_elem? xs i ≡ some x
+    → present (take (i + 1 - low) (drop low xs)) ≡ present (take (i - low) (drop low xs)) ++ present (x ∷ [])
+present_more xs low i x le e =
+    let more : i + 1 - low ≡ suc (i - low) = omega (arith, le) in
+    let at : low + (i - low) ≡ i = omega (arith, le) in
+    ap (λ m. present (take m (drop low xs))) more
+    ∙ ap present (take_next (i - low) (drop low xs) x (get_drop low xs (i - low) ∙ ap (get_elem? xs) at ∙ e))
+    ∙ present_parts (take (i - low) (drop low xs)) (x ∷ [])
+
+pub whole_stretch : (xs : List (Option FrameValue)) (low n : ℕ) → length xs ≡ n → take (n - low) (drop low xs) ≡ drop low xs
+whole_stretch xs low n len = take_whole (drop low xs) (n - low) (length-drop low xs ∙ ap (λ m. m - low) len)
+  where
+    take_whole : (ys : List (Option FrameValue)) (m : ℕ) → length ys ≡ m → take m ys ≡ ys
+    take_whole [] zero e = refl
+    take_whole [] (suc m) e = refl
+    take_whole (y ∷ ys) zero e = absurd (omega (arith, e))
+    take_whole (y ∷ ys) (suc m) e = ap (λ l. y ∷ l) (take_whole ys m (omega (arith, e)))
+
+pub index_there : (xs : List ℕ) (j a : ℕ) → get_elem? xs j ≡ some a → slice_index xs j ≡ a
+index_there [] j a e = absurd (some-ne-none a (sym e))
+index_there (x ∷ xs) zero a e = some-injective x a e
+index_there (x ∷ xs) (suc j) a e = index_there xs j a e
+
+pub set_false_here : (l : List Bool) (i : ℕ) → slice_index_or (slice_set l i false) i false ≡ false
+set_false_here [] i = refl
+set_false_here (x ∷ xs) zero = refl
+set_false_here (x ∷ xs) (suc i) = set_false_here xs i
+
+pub set_false_else : (l : List Bool) (i k : ℕ) → k ≢ i → slice_index_or (slice_set l i false) k false ≡ slice_index_or l k false
+set_false_else [] i k ne = refl
+set_false_else (x ∷ xs) zero zero ne = absurd (ne refl)
+set_false_else (x ∷ xs) zero (suc k) ne = refl
+set_false_else (x ∷ xs) (suc i) zero ne = refl
+set_false_else (x ∷ xs) (suc i) (suc k) ne = set_false_else xs i k (λ e. ne (ap suc e))
+
+-- the tokens before the last, and the last, are of the ring
+pub ring_parts : (ring : TableId) (ts : List Token) (t : Token) → AllOfRing ring (ts ++ t ∷ []) → AllOfRing ring ts × (t.ring ≡ ring)
+ring_parts ring [] t a = (tt, a.0)
+ring_parts ring (x ∷ xs) t a = let r = ring_parts ring xs t a.1 in ((a.0, r.0), r.1)

@@ -15,9 +15,9 @@ use tap_frame::Frame;
 /// To a contract it is the ring that it is of, and what it knows.
 #[derive(Drop)]
 pub struct Consumer {
-    seat: RingSeat,
-    front: u64,
-    freed: u64,
+    pub(crate) seat: RingSeat,
+    pub(crate) front: u64,
+    pub(crate) freed: u64,
 }
 
 impl Model for Consumer {

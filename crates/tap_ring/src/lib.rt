@@ -2,6 +2,7 @@
 #![tactic(auto)]
 
 mod consumer;
+mod ending;
 mod gate;
 mod keeper;
 mod making;
@@ -12,6 +13,7 @@ mod rule;
 mod steps;
 
 pub use consumer::{Consumer, NotReady};
+pub use ending::Ended;
 pub use gate::gate_laws;
 pub use keeper::{Keeper, Reopen, ResizesSpent};
 pub use making::Parts;
