@@ -13,7 +13,7 @@ use Rattle.tap_ring.specs.declared.keeper.Reopen.TheVariants.{NotDrained, Epochs
 use Rattle.tap_ring.specs.GateWord.{claimed_of, is_shut, epoch_of}
 use Rattle.tap_ring.specs.Moments.{IsLater, IsGone, IsOpen, IsSpent, IsFull, HasRoom, gate_of}
 use Rattle.tap_ring.specs.Standing.{EachClaim, times, within}
-use Rattle.tap_ring.specs.Steps.{claim}
+use Rattle.tap_ring.specs.Steps.{claim, seen_front, with_lifted}
 
 -- what a ring is to a contract: which one it is, what it was told, and how many slots it has
 pub record RingValue : Type 0 where
@@ -161,32 +161,23 @@ IsSecondLook gate freed asked m (Contended expected found) =
 
 -- ---- to take a frame
 
--- the frame of the front place
-pub record IsLifted (frame : FrameValue) (v w : View) : Type 0 where
-  pub lifted : w.lifted ≡ v.lifted ++ frame ∷ []
-  pub next : w.next ≡ v.next + 1
-  pub freed : w.freed ≡ v.freed
-  pub front : w.front ≡ v.next + 1
-  pub front_loads : w.front_loads ≡ v.front_loads + 1
+-- the front place's number was there: its frame is lifted
+abbrev pub IsLifted : FrameValue → View → View → Type 0
+IsLifted frame v w = w ≡ with_lifted frame (seen_front (v.next + 1) v)
 
 -- the front place's word wasn't its number at a load of this call
 pub record IsNotReady (place : ℕ) (v w : View) : Type 0 where
-  pub same : SameHands v w
   pub place_is : place ≡ v.next
   pub front : w.front ≢ place + 1
-  pub front_loads : w.front_loads ≡ v.front_loads + 1
+  pub seen : w ≡ seen_front w.front v
 
 -- one more place is free
 abbrev pub freed_one : View → View
 freed_one v = record v { freed = v.freed + 1 }
 
 -- the front frame was lifted, and one place freed
-pub record IsTaken (frame : FrameValue) (v w : View) : Type 0 where
-  pub lifted : w.lifted ≡ v.lifted ++ frame ∷ []
-  pub next : w.next ≡ v.next + 1
-  pub freed : w.freed ≡ v.freed + 1
-  pub front : w.front ≡ v.next + 1
-  pub front_loads : w.front_loads ≡ v.front_loads + 1
+abbrev pub IsTaken : FrameValue → View → View → Type 0
+IsTaken frame v w = w ≡ freed_one (with_lifted frame (seen_front (v.next + 1) v))
 
 -- ---- the gate
 
@@ -216,6 +207,7 @@ StaysShut v freed EpochsSpent = (v.gate.claimed ≡ freed) × (v.gate.epoch ≡ 
 -- the next number of resizes has this capacity; the claim count is the answer
 pub record IsResized (capacity claimed : ℕ) (v w : View) : Type 0 where
   pub same : SameHands v w
+  pub few : v.gate.resizes < 127
   pub later : SawMore v w
   pub capacity_is : w.gate.capacity ≡ capacity
   pub resizes : w.gate.resizes ≡ v.gate.resizes + 1

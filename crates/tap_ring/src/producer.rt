@@ -5,7 +5,7 @@ ghost use Rattle.tap_frame.specs.Frame.{FrameValue};
 ghost use Rattle.tap_ring.specs.Moments.{Fits, gate_of};
 ghost use Rattle.tap_ring.specs.Steps.{IsNew, seen_gate, ClaimedThen, MissedThen};
 ghost use Rattle.tap_ring.specs.declared.rule.Moment.{Moment};
-ghost use Rattle.tap_ring.specs.Calls.{IsProducer, SameHands, Placed, IsCause, IsOpenWord, RefusesWord, IsSecondLook};
+ghost use Rattle.tap_ring.specs.Calls.{IsProducer, SawMore, SameHands, Placed, IsCause, IsOpenWord, RefusesWord, IsSecondLook};
 
 use crate::gate::{CLAIMS_END, claimed_of, epoch_of, is_shut, resizes_of};
 use crate::ring::TapRing;
@@ -152,6 +152,7 @@ fn put(
     requires producer { IsProducer seat.old.me.0 × (seat.old.me.1 ≡ []) }
     ensures ring { seat.new.table_id ≡ seat.old.table_id }
     ensures producer { IsProducer seat.new.me.0 × (seat.new.me.1 ≡ []) }
+    ensures seen_more { SawMore seat.old.me.0 seat.new.me.0 }
     ensures placed { IfOk result (λ place. Placed epoch frame place seat.old.me.0 seat.new.me.0) }
     ensures frame_unchanged { IfErr result (λ back. back.frame ≡ frame) }
     ensures nothing_claimed { IfErr result (λ back. SameHands seat.old.me.0 seat.new.me.0) }
@@ -199,6 +200,7 @@ impl TapRing {
     pub fn try_put(&self, p: &mut Producer, epoch: u16, frame: Frame) -> Result<u64, PutBack>
         requires ring { p.old.ring ≡ self.now.ring }
         ensures ring { p.new.ring ≡ p.old.ring }
+        ensures seen_more { SawMore p.old.view p.new.view }
         ensures placed { IfOk result (λ place. Placed epoch frame place p.old.view p.new.view) }
         ensures frame_unchanged { IfErr result (λ back. back.frame ≡ frame) }
         ensures nothing_claimed { IfErr result (λ back. SameHands p.old.view p.new.view) }
