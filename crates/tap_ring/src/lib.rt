@@ -11,6 +11,8 @@ mod producer;
 mod ring;
 mod rule;
 mod steps;
+#[cfg(test)]
+mod tests;
 
 pub use consumer::{Consumer, NotReady};
 pub use ending::Ended;
