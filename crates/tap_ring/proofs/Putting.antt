@@ -1,27 +1,20 @@
 -- A producer's store of the place's number: the frame of its claim lies in the slot.
-use Rattle.std.proofs.Common.{◌≡◌, ◌≢◌, ◌⊎◌, ℕ, zero, suc, ◌+◌, ◌*◌, ◌^◌, ◌%◌, ◌≤◌, ◌<◌, ◌==◌, eqb, List, [], ◌∷◌, ◌++◌, length, set, get_or, Some, None, Option, Bool, true, false, refl, sym, ap, ◌∙◌, subst, ⊎_elim, inl, inr, le_refl, le_trans, arith, append-nil, length-append, length-set, mod-lt, le_of_eq, get_or-set_same, get_or-set_other, suc-ne-zero}
-use Rattle.std.specs.Prelude.{slice_index, slice_set, MatchBool}
-use Rattle.std.proofs.lemmas.List.{set-get_or}
+use Rattle.std.proofs.Common.{◌≡◌, ◌≢◌, ℕ, ◌+◌, ◌%◌, ◌≤◌, ◌<◌, eqb, List, [], ◌∷◌, set, Some, None, Option, true, false, refl, sym, ap, ◌∙◌, subst, ⊎_elim, inl, le_refl, arith, append-nil, length-set, mod-lt, le_of_eq, get_or-set_same, get_or-set_other}
+use Rattle.std.specs.Prelude.{slice_index, slice_set}
 use Rattle.std.proofs.lemmas.Bool.Decides.{eqb_tells}
-use mathlib.Core.Path.{Path}
 use mathlib.Core.Option.{none, some, some-injective}
-use mathlib.Core.Option as maybe
 use lib.ListN.{get_elem?}
-use prog.Atomic.{either}
-use Rattle.atomic_table.specs.Table.{State, Me, step, Allows, keeps, takes, gives, rest}
-use Rattle.atomic_table.proofs.Lists.{at_set, set_else, set_here, set_again, at_last}
+use Rattle.atomic_table.specs.Table.{step, Allows, gives}
+use Rattle.atomic_table.proofs.Lists.{set_else, set_here}
 use Rattle.tap_frame.specs.Frame.{FrameValue}
-use Rattle.tap_ring.specs.declared.rule.Moment.{Moment}
 use Rattle.tap_ring.specs.declared.rule.Claim.{Claim}
 use Rattle.tap_ring.specs.declared.rule.View.{View}
 use Rattle.tap_ring.specs.declared.rule.Plan.{Plan}
-use Rattle.tap_ring.specs.GateWord.{bit, gate_word}
-use Rattle.tap_ring.specs.Moments.{Fits, IsLater, IsPast, HasRoom, gate_of, capacity_at}
-use Rattle.tap_ring.specs.Standing.{RingState, Placing, Standing, slots_of, slot_at, word_at, home_at, IsEntered, IsReady, IsClaimed, IsInHand, IsPlace, EachClaim, KnowsClaims, KnowsFront, KnowsGate, Knows, Ring, times, total, within}
-use Rattle.tap_ring.specs.Steps.{Seated, RingStep, IsNew, claim, with_claim, seen_gate, Exchanges, Puts}
-use Rattle.tap_ring.proofs.Kit.{off, on, some_not_none, some_is, before_end, set_there, parts_equal, GoesOn, past_stays, past_later, entered_longer, entered_once, entered_below, each_append, each_map, total_set, times-append, within_more, slots_apart}
-use Rattle.tap_ring.proofs.Stays.{Apart, Still, seats_set, place_stays, entered_in, word_same, home_same, frames_front}
-use Rattle.tap_ring.proofs.Loads.{past_now, new_now, still_set, hand_set, looked, gate_knows}
+use Rattle.tap_ring.specs.Standing.{RingState, Placing, slots_of, slot_at, word_at, IsEntered, IsPlace, Knows, Ring, times}
+use Rattle.tap_ring.specs.Steps.{Seated, Puts}
+use Rattle.tap_ring.proofs.Kit.{some_not_none, some_is, past_stays, entered_once, entered_below, total_set, slots_apart}
+use Rattle.tap_ring.proofs.Stays.{Apart, seats_set, place_stays, word_same, home_same}
+use Rattle.tap_ring.proofs.Loads.{hand_set}
 
 module _ (plan : Plan) where
   module _ (s : RingState) (r : Ring plan s) (by : ℕ) (v : View) (c : Claim) (at : get_elem? s.views by ≡ some v) (putting : v.putting ≡ Some c) where

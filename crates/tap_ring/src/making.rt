@@ -36,12 +36,7 @@ fn words_of(alloc: Global, most: u16, capacity: u16, first: u64) -> Result<Vec<u
 }
 
 // The producers leave the first seat, one by one.
-fn deal(
-    places: &Places,
-    seat: &mut RingSeat,
-    mut all: Vec<Producer>,
-    count: u16,
-) -> Vec<Producer>
+fn deal(places: &Places, seat: &mut RingSeat, mut all: Vec<Producer>, count: u16) -> Vec<Producer>
     requires ring { (seat.old.table_id ≡ places.now.table_id) × (0 < places.now.table_id.words) }
     requires maker { seat.old.me ≡ (maker_of places.now.key count, []) }
     requires room { (vec_len all ≡ 0) × (count ≤ vec_capacity all) }

@@ -113,13 +113,7 @@ fn claim(
 }
 
 // What is told where there was no room: whether the ring was resized since.
-fn look_again(
-    places: &Places,
-    seat: &mut RingSeat,
-    gate: u64,
-    resizes: u8,
-    freed: u64,
-) -> Why
+fn look_again(places: &Places, seat: &mut RingSeat, gate: u64, resizes: u8, freed: u64) -> Why
     requires ring { (seat.old.table_id ≡ places.now.table_id) × (130 < places.now.table_id.words) }
     requires producer { IsProducer seat.old.me.0 × (seat.old.me.1 ≡ []) }
     requires gate { (gate ≡ gate_of seat.old.me.0.asked) × Fits seat.old.me.0.asked × (resizes ≡ seat.old.me.0.asked.resizes) }

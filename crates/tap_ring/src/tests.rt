@@ -41,11 +41,13 @@ fn put(alloc: Global, ring: &TapRing, p: &mut Producer, epoch: u16, turn: u32) -
     };
     match ring.try_put(p, epoch, frame) {
         Ok(place) => Outcome::At(place),
-        Err(PutBack {
-            frame,
-            why,
-            resizes: _,
-        }) => {
+        Err(
+            PutBack {
+                frame,
+                why,
+                resizes: _,
+            },
+        ) => {
             let _ = frame.end();
             Outcome::Back(why)
         }

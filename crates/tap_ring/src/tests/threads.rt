@@ -31,17 +31,15 @@ fn place<R: Wait + Abort>(
     for _ in rt.forever() {
         match ring.try_put(p, *epoch, frame) {
             Ok(at) => return at,
-            Err(PutBack {
-                frame: back,
-                why,
-                resizes: _,
-            }) => {
+            Err(
+                PutBack {
+                    frame: back,
+                    why,
+                    resizes: _,
+                },
+            ) => {
                 frame = back;
-                if let Why::Gone {
-                    found,
-                    shut: false,
-                } = why
-                {
+                if let Why::Gone { found, shut: false } = why {
                     *epoch = found;
                 }
                 thread::yield_now();

@@ -1,4 +1,4 @@
-use Rattle.std.proofs.Common.{arith, ◌≡◌, ◌+◌, ℕ, refl, sym, ap, ◌∙◌}
+use Rattle.std.proofs.Common.{arith}
 use Rattle.tap_ring.proofs.Lifting.{lifts}
 use Rattle.tap_ring.proofs.steps.give_front.Goals as goal
 

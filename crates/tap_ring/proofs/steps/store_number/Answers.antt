@@ -1,4 +1,4 @@
-use Rattle.std.proofs.Common.{arith, ◌≡◌, ◌+◌, ℕ, refl, sym, ap, ◌∙◌}
+use Rattle.std.proofs.Common.{arith, refl}
 use Rattle.tap_ring.proofs.Putting.{puts}
 use Rattle.tap_ring.proofs.steps.store_number.Goals as goal
 

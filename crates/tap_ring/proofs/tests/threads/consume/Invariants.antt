@@ -5,5 +5,5 @@ abbrev pub invariant-loop-round : goal.invariant-loop-round
 invariant-loop-round g l = record {
   consumer : l.c.ring ≡ l.fn.ring.ring;
   keeper : l.k.ring ≡ l.fn.ring.ring;
-  shut : l.k.view.gate.shut ≡ true
+  shut : l.k.view.gate.shut ≡ true;
 }
