@@ -1,0 +1,56 @@
+-- From what the steps of a put told to what the call promises.
+use Rattle.std.proofs.Common.{◌≡◌, ℕ, ◌+◌, ◌^◌, ◌<◌, [], ◌∷◌, ◌++◌, refl, sym, ap, ◌∙◌, subst, arith}
+use Rattle.tap_frame.specs.Frame.{FrameValue}
+use Rattle.tap_ring.specs.declared.rule.Moment.{Moment}
+use Rattle.tap_ring.specs.declared.rule.Claim.{Claim}
+use Rattle.tap_ring.specs.declared.rule.View.{View}
+use Rattle.tap_ring.specs.GateWord.{claimed_of, is_shut, epoch_of, resizes_of}
+use Rattle.tap_ring.specs.Moments.{Fits, IsOpen, gate_of}
+use Rattle.tap_ring.specs.Standing.{EachClaim}
+use Rattle.tap_ring.specs.Steps.{IsNew, claim, seen_gate, seen_capacity, seen_freed, ClaimedThen}
+use Rattle.tap_ring.specs.Calls.{Placed, IsOpenWord}
+use Rattle.tap_ring.proofs.Kit.{parts_equal, gate_parts}
+
+-- the parts of a moment's gate word
+pub word_parts : (m : Moment) → Fits m → (claimed_of (gate_of m) ≡ m.claimed) × (is_shut (gate_of m) ≡ m.shut) × (epoch_of (gate_of m) ≡ m.epoch) × (resizes_of (gate_of m) ≡ m.resizes)
+word_parts m f = gate_parts m.claimed m.shut m.epoch m.resizes f.claimed f.epoch f.resizes
+
+pub open_word : (epoch : ℕ) (m : Moment) → Fits m → IsOpenWord epoch (gate_of m) → IsOpen epoch m × (m.claimed + 1 < 2 ^ 40)
+open_word epoch m f o =
+    let p = word_parts m f in
+    let c = p.0 in
+    let l = o.2 in
+    ((sym p.1 ∙ o.0, sym p.2 ∙ o.1), omega (arith, c, l))
+
+placed_at : (epoch place : ℕ) (frame : FrameValue) (v w : View) (m m3 : Moment) → IsNew v m → IsNew (seen_capacity (seen_gate m v)) m3 → IsOpen epoch m → m.claimed + 1 < 2 ^ 40
+    → ClaimedThen frame place (seen_freed m3 (seen_capacity (seen_gate m v))) w → Placed epoch frame place v w
+placed_at epoch place frame v w m m3 new new3 is_open few t =
+    let m4 = t.0 in
+    let same = parts_equal m4 m t.2.fits new.fits t.1 in
+    let same_claimed = same.0 in
+    let at : place ≡ m4.claimed = t.5 in
+    subst (Placed epoch frame place v) (sym t.6) (record {
+      asked = record {
+        open_then = is_open;
+        unspent = λ spent. omega (arith, spent, few);
+        later = new.gate;
+        order = new3.gate;
+        capacity_loads = refl;
+        freed_loads = refl;
+        gate_loads = omega arith;
+      };
+      open_then = (same.1 ∙ is_open.0, same.2 ∙ is_open.1);
+      room = t.3;
+      place_is = at;
+      bound = omega (arith, at, same_claimed, few);
+      above = subst (λ n. EachClaim (λ c. c.place < n) v.mine) (sym at) t.4;
+      mine = ap (λ (c : Claim). v.mine ++ c ∷ []) (λ i. claim (sym at i) ((same.2 ∙ is_open.1) i) frame);
+    })
+
+pub placed_then : (epoch place gate : ℕ) (frame : FrameValue) (v v1 v2 v3 w : View) (m m3 : Moment) → gate ≡ gate_of m → IsNew v m → v1 ≡ seen_gate m v → v2 ≡ seen_capacity v1 → IsNew v2 m3 → v3 ≡ seen_freed m3 v2
+    → IsOpenWord epoch gate → ClaimedThen frame place v3 w → Placed epoch frame place v w
+placed_then epoch place gate frame v v1 v2 v3 w m m3 is new one two new3 three is_open t =
+    let o = open_word epoch m new.fits (subst (IsOpenWord epoch) is is_open) in
+    let second : v2 ≡ seen_capacity (seen_gate m v) = two ∙ ap seen_capacity one in
+    placed_at epoch place frame v w m m3 new (subst (λ (x : View). IsNew x m3) second new3) o.0 o.1
+    (subst (λ (x : View). ClaimedThen frame place x w) (three ∙ ap (seen_freed m3) second) t)

@@ -1,0 +1,13 @@
+pub mod Kit
+pub mod Stays
+pub mod Loads
+pub mod Claims
+pub mod Putting
+pub mod Fronts
+pub mod Lifting
+pub mod Freeing
+pub mod Gates
+pub mod Tokens
+pub mod Causes
+pub mod Lines
+pub mod Ends

@@ -1,0 +1,9 @@
+use Rattle.tap_ring.proofs.Causes.{placed_then}
+use Rattle.tap_ring.proofs.producer.put.Goals as goal
+
+pub returns-in-Ok-clause-placed : goal.returns-in-Ok-clause-placed
+returns-in-Ok-clause-placed c =
+    let a = c.load_gate-gate.ensures.told in
+    let b = c.load_capacity-capacity.ensures.told in
+    let d = c.load_freed-freed.ensures.told in
+    placed_then _ _ _ _ _ _ _ _ _ a.0 d.0 a.1 a.2 a.3 b.1 d.2 d.3 c.in_default.ensures c.in-Ok.ensures.placed

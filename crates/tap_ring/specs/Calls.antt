@@ -1,0 +1,249 @@
+-- This project's own: what each call of a ring promises.
+use Rattle.std.specs.Prelude.{◌≡◌, ◌≢◌, ℕ, ◌+◌, ◌^◌, ◌<◌, ◌≤◌, ◌⊎◌, Bool, true, false, List, [], ◌∷◌, ◌++◌, length, slice_get, Some, None}
+use Rattle.atomic_table.specs.Seated.{TableId}
+use Rattle.tap_frame.specs.Frame.{FrameValue}
+use Rattle.tap_ring.specs.declared.rule.Moment.{Moment}
+use Rattle.tap_ring.specs.declared.rule.Claim.{Claim}
+use Rattle.tap_ring.specs.declared.rule.View.{View}
+use Rattle.tap_ring.specs.declared.rule.Plan.{Plan}
+use Rattle.tap_ring.specs.declared.producer.Why.{Why}
+use Rattle.tap_ring.specs.declared.producer.Why.TheVariants.{Gone, Spent, Full, Contended}
+use Rattle.tap_ring.specs.declared.keeper.Reopen.{Reopen}
+use Rattle.tap_ring.specs.declared.keeper.Reopen.TheVariants.{NotDrained, EpochsSpent}
+use Rattle.tap_ring.specs.GateWord.{claimed_of, is_shut, epoch_of}
+use Rattle.tap_ring.specs.Moments.{IsLater, IsGone, IsOpen, IsSpent, IsFull, HasRoom, gate_of}
+use Rattle.tap_ring.specs.Standing.{EachClaim, times, within}
+use Rattle.tap_ring.specs.Steps.{claim, seen_front, with_lifted}
+
+-- what a ring is to a contract: which one it is, what it was told, and how many slots it has
+pub record RingValue : Type 0 where
+  pub ring : TableId
+  pub plan : Plan
+  pub most : ℕ
+
+-- what a token is to a contract: the ring that it is of, and what it knows
+pub record Token : Type 0 where
+  pub ring : TableId
+  pub view : View
+
+abbrev pub token : TableId → View → Token
+token ring view = record { ring = ring; view = view }
+
+-- ---- what every call of a token keeps
+
+-- nothing that the token saw has fallen
+pub record SawMore (v w : View) : Type 0 where
+  pub gate : IsLater v.gate w.gate
+  pub room : IsLater v.room w.room
+
+-- a producer between two calls
+pub record IsProducer (v : View) : Type 0 where
+  pub parts : v.parts ≡ 1
+  pub putting : v.putting ≡ None
+  pub spent : v.spent ≡ false
+
+-- a consumer between two calls
+pub record IsConsumer (v : View) : Type 0 where
+  pub takes : v.takes ≡ true
+  pub in_hand : v.in_hand ≡ None
+  pub order : v.freed ≤ v.next
+  pub bound : v.next < 2 ^ 40
+  pub parts : v.parts ≡ 0
+  pub mine : v.mine ≡ []
+  pub putting : v.putting ≡ None
+  pub spent : v.spent ≡ false
+
+-- a keeper between two calls
+pub record IsKeeper (v : View) : Type 0 where
+  pub keeps : v.keeps ≡ true
+  pub resizes : v.gate.resizes < 2 ^ 7
+  pub spent : v.spent ≡ false
+
+-- it is the same token, with the same claims, and the same frames lifted
+pub record SameHands (v w : View) : Type 0 where
+  pub parts : w.parts ≡ v.parts
+  pub mine : w.mine ≡ v.mine
+  pub next : w.next ≡ v.next
+  pub lifted : w.lifted ≡ v.lifted
+  pub freed : w.freed ≡ v.freed
+
+-- ---- to put a frame
+
+-- the gate that this call loaded first was open and not spent; the capacity and the freed count were loaded after it
+pub record Asked (epoch : ℕ) (v w : View) : Type 0 where
+  pub open_then : IsOpen epoch w.asked
+  pub unspent : ¬ IsSpent w.asked
+  pub later : IsLater v.gate w.asked
+  pub order : IsLater w.asked w.room
+  pub capacity_loads : w.capacity_loads ≡ v.capacity_loads + 1
+  pub freed_loads : w.freed_loads ≡ v.freed_loads + 1
+  pub gate_loads : w.gate_loads ≡ v.gate_loads + 2
+
+-- the claim count that was loaded is by the capacity or more above the freed count that was loaded after it
+abbrev pub FoundFull : View → Type 0
+FoundFull w = w.room.freed + w.asked.capacity ≤ w.asked.claimed
+
+-- the place is this producer's, above all its earlier ones: at the exchange the gate was open and there was room
+pub record Placed (epoch : ℕ) (frame : FrameValue) (place : ℕ) (v w : View) : Type 0 where
+  pub asked : Asked epoch v w
+  pub open_then : IsOpen epoch w.gate
+  pub room : HasRoom w.gate
+  pub place_is : place ≡ w.gate.claimed
+  pub bound : place + 1 < 2 ^ 40
+  pub above : EachClaim (λ c. c.place < place) v.mine
+  pub mine : w.mine ≡ v.mine ++ claim place epoch frame ∷ []
+
+-- the gate that this call loaded was shut, or had another epoch
+pub record IsGoneThen (epoch found : ℕ) (shut : Bool) (resizes : ℕ) (v w : View) : Type 0 where
+  pub gone : IsGone epoch w.gate
+  pub found_is : found ≡ w.gate.epoch
+  pub shut_is : shut ≡ w.gate.shut
+  pub resizes_is : resizes ≡ w.gate.resizes
+  pub gate_loads : w.gate_loads ≡ v.gate_loads + 1
+
+-- else, its claim count was at its end
+pub record IsSpentThen (epoch claimed resizes : ℕ) (v w : View) : Type 0 where
+  pub open_then : IsOpen epoch w.gate
+  pub spent : IsSpent w.gate
+  pub claimed_is : claimed ≡ w.gate.claimed
+  pub resizes_is : resizes ≡ w.gate.resizes
+  pub gate_loads : w.gate_loads ≡ v.gate_loads + 1
+
+-- else, there was no room by the numbers loaded, and at the load of the freed count the ring was full
+pub record IsFullThen (epoch claimed freed resizes : ℕ) (v w : View) : Type 0 where
+  pub asked : Asked epoch v w
+  pub found : FoundFull w
+  pub full : IsFull w.room
+  pub claimed_is : claimed ≡ w.asked.claimed
+  pub freed_is : freed ≡ w.room.freed
+  pub resizes_is : (resizes ≡ w.asked.resizes) × (w.gate.resizes ≡ resizes)
+  pub order : IsLater w.room w.gate
+
+-- the gate was another at the exchange; or, where there was no room, it was resized since
+pub record IsContended (epoch expected found resizes : ℕ) (v w : View) : Type 0 where
+  pub asked : Asked epoch v w
+  pub expected_is : expected ≡ gate_of w.asked
+  pub found_is : found ≡ gate_of w.gate
+  pub differ : expected ≢ found
+  pub resizes_is : resizes ≡ w.asked.resizes
+  pub cause : (¬ FoundFull w) ⊎ (FoundFull w × (w.gate.resizes ≢ w.asked.resizes))
+
+-- why a frame comes back
+abbrev pub IsCause : ℕ → Why → ℕ → View → View → Type 0
+IsCause epoch (Gone found shut) resizes v w = IsGoneThen epoch found shut resizes v w
+IsCause epoch (Spent claimed) resizes v w = IsSpentThen epoch claimed resizes v w
+IsCause epoch (Full claimed freed) resizes v w = IsFullThen epoch claimed freed resizes v w
+IsCause epoch (Contended expected found) resizes v w = IsContended epoch expected found resizes v w
+
+-- ---- a gate word, as a producer looks at it
+
+-- it is open at this epoch, and not spent
+abbrev pub IsOpenWord : ℕ → ℕ → Type 0
+IsOpenWord epoch gate = (is_shut gate ≡ false) × (epoch_of gate ≡ epoch) × (claimed_of gate + 1 < 2 ^ 40)
+
+-- the first cause that holds of it
+abbrev pub RefusesWord : ℕ → ℕ → Why → Type 0
+RefusesWord epoch gate (Gone found shut) =
+    (found ≡ epoch_of gate) × (shut ≡ is_shut gate) × ((is_shut gate ≡ true) ⊎ (epoch_of gate ≢ epoch))
+RefusesWord epoch gate (Spent claimed) =
+    (is_shut gate ≡ false) × (epoch_of gate ≡ epoch) × (claimed_of gate + 1 ≡ 2 ^ 40) × (claimed ≡ claimed_of gate)
+RefusesWord epoch gate (Full claimed freed) = ⊥
+RefusesWord epoch gate (Contended expected found) = ⊥
+
+-- the second look at the gate, where there was no room
+abbrev pub IsSecondLook : ℕ → ℕ → Moment → Moment → Why → Type 0
+IsSecondLook gate freed asked m (Gone found shut) = ⊥
+IsSecondLook gate freed asked m (Spent claimed) = ⊥
+IsSecondLook gate freed asked m (Full claimed freed_then) =
+    (claimed ≡ asked.claimed) × (freed_then ≡ freed) × (m.resizes ≡ asked.resizes)
+IsSecondLook gate freed asked m (Contended expected found) =
+    (expected ≡ gate) × (found ≡ gate_of m) × (m.resizes ≢ asked.resizes)
+
+-- ---- to take a frame
+
+-- the front place's number was there: its frame is lifted
+abbrev pub IsLifted : FrameValue → View → View → Type 0
+IsLifted frame v w = w ≡ with_lifted frame (seen_front (v.next + 1) v)
+
+-- the front place's word wasn't its number at a load of this call
+pub record IsNotReady (place : ℕ) (v w : View) : Type 0 where
+  pub place_is : place ≡ v.next
+  pub front : w.front ≢ place + 1
+  pub seen : w ≡ seen_front w.front v
+
+-- one more place is free
+abbrev pub freed_one : View → View
+freed_one v = record v { freed = v.freed + 1 }
+
+-- the front frame was lifted, and one place freed
+abbrev pub IsTaken : FrameValue → View → View → Type 0
+IsTaken frame v w = w ≡ freed_one (with_lifted frame (seen_front (v.next + 1) v))
+
+-- ---- the gate
+
+-- the gate is shut now, and no place is given out; the claim count is the answer
+pub record IsShutNow (claimed : ℕ) (v w : View) : Type 0 where
+  pub same : SameHands v w
+  pub later : SawMore v w
+  pub shut : w.gate.shut ≡ true
+  pub claimed_is : claimed ≡ w.gate.claimed
+  pub epoch : w.gate.epoch ≡ v.gate.epoch
+  pub resizes : w.gate.resizes ≡ v.gate.resizes
+
+-- the gate is open at the next epoch; no place was given out since the shut
+pub record IsReopened (epoch : ℕ) (v w : View) : Type 0 where
+  pub same : SameHands v w
+  pub later : SawMore v w
+  pub shut : w.gate.shut ≡ false
+  pub epoch_is : (epoch ≡ v.gate.epoch + 1) × (w.gate.epoch ≡ epoch)
+  pub claimed : w.gate.claimed ≡ v.gate.claimed
+  pub resizes : w.gate.resizes ≡ v.gate.resizes
+
+-- why the gate stays shut: the two counts that the tokens keep differ; or else there is no further epoch
+abbrev pub StaysShut : View → ℕ → Reopen → Type 0
+StaysShut v freed (NotDrained claimed freed_then) =
+    (claimed ≡ v.gate.claimed) × (freed_then ≡ freed) × (claimed ≢ freed_then)
+StaysShut v freed EpochsSpent = (v.gate.claimed ≡ freed) × (v.gate.epoch ≡ 65535)
+
+-- the next number of resizes has this capacity; the claim count is the answer
+pub record IsResized (capacity claimed : ℕ) (v w : View) : Type 0 where
+  pub same : SameHands v w
+  pub few : v.gate.resizes < 127
+  pub later : SawMore v w
+  pub capacity_is : w.gate.capacity ≡ capacity
+  pub resizes : w.gate.resizes ≡ v.gate.resizes + 1
+  pub claimed_is : claimed ≡ w.gate.claimed
+  pub shut : w.gate.shut ≡ v.gate.shut
+  pub epoch : w.gate.epoch ≡ v.gate.epoch
+
+-- ---- the end
+
+-- how many claims of these producers are to the place
+abbrev pub claims_to : ℕ → List Token → ℕ
+claims_to p [] = 0
+claims_to p (t ∷ ts) = times p t.view.mine + claims_to p ts
+
+-- each of the tokens is of this ring
+abbrev pub AllOfRing : TableId → List Token → Type 0
+AllOfRing ring [] = Unit {0}
+AllOfRing ring (t ∷ ts) = (t.ring ≡ ring) × AllOfRing ring ts
+
+-- this claim's frame stands in the line at its place
+abbrev pub StandsIn : ℕ → List FrameValue → Claim → Type 0
+StandsIn first line c = (k : ℕ) × (c.place ≡ first + k) × (slice_get line k ≡ Some c.frame)
+
+-- each of these producers' claims stands in the line
+abbrev pub AllStand : ℕ → List FrameValue → List Token → Type 0
+AllStand first line [] = Unit {0}
+AllStand first line (t ∷ ts) = EachClaim (StandsIn first line) t.view.mine × AllStand first line ts
+
+-- What was lifted and what is left are the frames of all places, in order; each place is one producer's claim, once,
+-- with the frame that it put.
+pub record IsEnd (first : ℕ) (all : List Token) (c : View) (claimed freed lifted : ℕ) (left : List FrameValue)
+    : Type 0 where
+  pub lifted_is : lifted ≡ first + length c.lifted
+  pub freed_is : freed ≡ c.freed
+  pub claimed_is : claimed ≡ first + length (c.lifted ++ left)
+  pub once : (p : ℕ) → claims_to p all ≡ within first claimed p
+  pub stand : AllStand first (c.lifted ++ left) all
+  pub order : (first ≤ freed) × (freed ≤ lifted) × (lifted ≤ claimed)

@@ -1,0 +1,6 @@
+pub mod GateWord
+pub mod Moments
+pub mod Standing
+pub mod Steps
+pub mod Calls
+pub mod Leaving

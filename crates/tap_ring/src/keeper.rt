@@ -1,0 +1,121 @@
+//! The keeper shuts, reopens and resizes.
+
+ghost use Rattle.std.specs.Prelude.{◌≡◌, ℕ, ◌+◌, ◌^◌, ◌<◌, ◌≤◌, true, false, [], IfOk, IfErr};
+ghost use Rattle.tap_ring.specs.Calls.{token, IsKeeper, IsShutNow, IsReopened, StaysShut, IsResized};
+
+use crate::consumer::Consumer;
+use crate::gate::claimed_of;
+use crate::ring::TapRing;
+use crate::rule::RingSeat;
+use crate::steps::{add_resize, reopen_gate, shut_gate, store_capacity};
+use std::marker::Model;
+
+/// A ring's one keeper.
+///
+/// To a contract it is the ring that it is of, and what it knows: of the gate that is whether it is
+/// shut, the epoch, the number of resizes, and of a shut one the claim count.
+#[derive(Drop)]
+pub struct Keeper {
+    pub(crate) seat: RingSeat,
+    pub(crate) epoch: u16,
+    pub(crate) resizes: u8,
+    pub(crate) claimed: u64,
+}
+
+impl Model for Keeper {
+    ghost use Rattle.std.specs.Prelude.{◌≡◌, []};
+    ghost use Rattle.tap_ring.specs.Calls.{Token, token, IsKeeper};
+
+    ghost Value = { Token };
+
+    ghost view = { λ k. token k.seat.table_id k.seat.me.0 };
+
+    ghost invariant = { λ k. IsKeeper k.seat.me.0 × (k.seat.me.1 ≡ []) × (k.epoch ≡ k.seat.me.0.gate.epoch) × (k.resizes ≡ k.seat.me.0.gate.resizes) × (k.claimed ≡ k.seat.me.0.gate.claimed) };
+}
+
+/// Why a gate stays shut.
+#[derive(Clone, Copy, Debug, PartialEq, Eq, Drop)]
+pub enum Reopen {
+    /// Not every place that was claimed is free again.
+    NotDrained { claimed: u64, freed: u64 },
+    /// The epoch is the last one, 65,535.
+    EpochsSpent,
+}
+
+/// The ring has been resized 127 times.
+#[derive(Clone, Copy, Debug, PartialEq, Eq, Drop)]
+pub struct ResizesSpent;
+
+impl Keeper {
+    // The keeper of a ring that has just been made.
+    pub(crate) fn new(seat: RingSeat, first: u64) -> Keeper
+        requires { IsKeeper seat.me.0 × (seat.me.1 ≡ []) × (seat.me.0.gate.epoch ≡ 0) × (seat.me.0.gate.resizes ≡ 0) × (seat.me.0.gate.claimed ≡ first) }
+        ensures { result ≡ token seat.table_id seat.me.0 }
+    {
+        Keeper {
+            seat,
+            epoch: 0,
+            resizes: 0,
+            claimed: first,
+        }
+    }
+}
+
+impl TapRing {
+    /// Shuts the gate: no place is claimed until it is reopened. Gives the claim count.
+    pub fn shut(&self, k: &mut Keeper) -> u64
+        requires ring { k.old.ring ≡ self.now.ring }
+        requires unshut { k.old.view.gate.shut ≡ false }
+        ensures ring { k.new.ring ≡ k.old.ring }
+        ensures shut { IsShutNow result k.old.view k.new.view }
+    {
+        let word = shut_gate(&self.table.shared, &mut k.seat);
+        k.claimed = claimed_of(word);
+        k.claimed
+    }
+
+    /// Reopens a gate at the next epoch, where the count of claims that the keeper knows is the
+    /// consumer's count of freed places. Gives the epoch.
+    pub fn reopen(&self, k: &mut Keeper, c: &Consumer) -> Result<u16, Reopen>
+        requires keeper { k.old.ring ≡ self.now.ring }
+        requires consumer { c.now.ring ≡ self.now.ring }
+        requires shut { k.old.view.gate.shut ≡ true }
+        ensures ring { k.new.ring ≡ k.old.ring }
+        ensures reopened { IfOk result (λ epoch. IsReopened epoch k.old.view k.new.view) }
+        ensures drained { IfOk result (λ epoch. k.old.view.gate.claimed ≡ c.now.view.freed) }
+        ensures cause { IfErr result (λ e. StaysShut k.old.view c.now.view.freed e) }
+        ensures unchanged { IfErr result (λ e. k.new.view ≡ k.old.view) }
+    {
+        let claimed = k.claimed;
+        let freed = c.freed();
+        if claimed != freed {
+            return Err(Reopen::NotDrained { claimed, freed });
+        }
+        if k.epoch == u16::MAX {
+            return Err(Reopen::EpochsSpent);
+        }
+        let word = reopen_gate(&self.table.shared, &mut k.seat);
+        k.claimed = claimed_of(word);
+        k.epoch += 1;
+        Ok(k.epoch)
+    }
+
+    /// Sets the capacity, from the next claim on. Gives the claim count at that step.
+    pub fn resize(&self, k: &mut Keeper, capacity: u16) -> Result<u64, ResizesSpent>
+        requires ring { k.old.ring ≡ self.now.ring }
+        requires capacity { (1 ≤ capacity) × (capacity ≤ self.now.most) }
+        ensures ring { k.new.ring ≡ k.old.ring }
+        ensures resized { IfOk result (λ claimed. IsResized capacity claimed k.old.view k.new.view) }
+        ensures spent { IfErr result (λ e. k.old.view.gate.resizes ≡ 127) }
+        ensures unchanged { IfErr result (λ e. k.new.view ≡ k.old.view) }
+    {
+        if k.resizes == 127 {
+            return Err(ResizesSpent);
+        }
+        store_capacity(&self.table.shared, &mut k.seat, k.resizes, capacity);
+        let word = add_resize(&self.table.shared, &mut k.seat);
+        k.claimed = claimed_of(word);
+        k.resizes += 1;
+        Ok(k.claimed)
+    }
+}
