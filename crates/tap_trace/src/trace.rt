@@ -2,7 +2,7 @@
 
 use crate::answer::Answer;
 use crate::kind::Kind;
-use scen_text::Command;
+use scen_words::Command;
 use sqlite_items::Items;
 use tap_frame::Name;
 use tap_ledger::{Fate, Side};
