@@ -9,7 +9,6 @@ use Rattle.scen_words.specs.declared.declaration.Declaration.TheVariants.{File}
 use Rattle.scen_text.specs.declared.scenario.Line.{Line}
 use Rattle.scen_text.specs.declared.scenario.Phase.{Phase}
 use Rattle.scen_text.specs.declared.scenario.Scenario.{Scenario}
-use Rattle.scen_text.specs.declared.scenario.Script.{Script}
 
 -- ---- a frame
 

@@ -1,4 +1,5 @@
--- This project's own: what the words of a scenario and the lines that are written with them have to do with one another.
+-- This project's own: what the words of a scenario and the lines that are written with them have to do with one
+-- another.
 use Rattle.std.specs.Prelude.{◌≡◌, ℕ, ◌^◌, ◌<◌, ◌≤◌, true, IsTrue, List, [], ◌∷◌, codes, Some, None, Ok}
 use Rattle.std.specs.Fmt.{decimal}
 use Rattle.std.specs.Option.{IfSome}

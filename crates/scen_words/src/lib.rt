@@ -1,12 +1,12 @@
 //! The words of a scenario: what a line says by itself, and how it is written.
 //!
-//! A line is nothing, a declaration, a command, or the beginning or the end of a block: a [`Sentence`], made of a word and
-//! values of the word's form. A [`Declaration`] and a [`Command`] are what a word and its values are, with the number of
-//! the name in it; to a contract each of them is a record of numbers and lists.
+//! A line is nothing, a declaration, a command, or the beginning or the end of a block: a [`Sentence`], made of a word
+//! and values of the word's form. A [`Declaration`] and a [`Command`] are what a word and its values are, with the number
+//! of the name in it; to a contract each of them is a record of numbers and lists.
 //!
 //! `specs/Kinds.antt` has the kinds of fields with their ranges, `specs/Words.antt` the words with their spellings and
 //! forms, `specs/Sentences.antt` what a line says, `specs/Commands.antt` which command a word and its values are and the
-//! other way round, `specs/Rows.antt` the fields of the line that is written, and `specs/Laws.antt` that both ways agree.
+//! other way round, `specs/Rows.antt` the fields of the line that is written, and `specs/Laws.antt` that both agree.
 //! `specs/Why.antt` has the numbers of the refusals, and `src/limits.rt` the limits.
 #![tactic(auto)]
 

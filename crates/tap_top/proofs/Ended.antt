@@ -49,35 +49,35 @@ long_not_good input s long p =
 
 -- the generator reads nothing
 made_reads : (r : Request) (count : ℕ) → reads r ≡ true → r ≡ Gen count → ⊥
-made_reads r count yes is = let e : false ≡ true = sym (ap reads is) ∙ yes in cc
+made_reads r count does is = let e : false ≡ true = sym (ap reads is) ∙ does in cc
 
 long_reply : (r : Request) (input : List ℕ) (s : ℕ) (text : List ℕ) → reads r ≡ true → MAX_BYTES < length input → IsReply r input s text → s ≡ 2
-long_reply r input s text yes long (Good reading scenario stands headline out e) = absurd (long_not_good input scenario long stands)
-long_reply r input s text yes long (Refused reading fault refusal out e) = e
-long_reply r input s text yes long (Made count is out e) = absurd (made_reads r count yes is)
+long_reply r input s text does long (Good reading scenario stands headline out e) = absurd (long_not_good input scenario long stands)
+long_reply r input s text does long (Refused reading fault refusal out e) = e
+long_reply r input s text does long (Made count is out e) = absurd (made_reads r count does is)
 
 one_request : (q r : Request) → Some q ≡ Some r → q ≡ r
 one_request q r e = cc
 
 one_reply : (q r : Request) (input : List ℕ) (s t : ℕ) (x y : List ℕ) → reads q ≡ true → q ≡ r → IsReply q input s x → IsReply r input t y → s ≡ t
-one_reply q r input s t x y yes same (Good reading scenario stands h a e) (Good too other good k b d) =
+one_reply q r input s t x y does same (Good reading scenario stands h a e) (Good too other good k b d) =
     e ∙ ap (λ (z : Request). status_for z scenario) same
     ∙ ap (λ (z : Scenario). status_for r z) (one_scenario input scenario other stands good) ∙ sym d
-one_reply q r input s t x y yes same (Good reading scenario stands h a e) (Refused too fault refusal b d) = absurd (good_or_refused input scenario fault stands refusal)
-one_reply q r input s t x y yes same (Good reading scenario stands h a e) (Made count is b d) = absurd (made_reads q count yes (same ∙ is))
-one_reply q r input s t x y yes same (Refused reading fault refusal a e) (Good too scenario stands h b d) = absurd (good_or_refused input scenario fault stands refusal)
-one_reply q r input s t x y yes same (Refused reading fault refusal a e) (Refused too other refused b d) = e ∙ sym d
-one_reply q r input s t x y yes same (Refused reading fault refusal a e) (Made count is b d) = absurd (made_reads q count yes (same ∙ is))
-one_reply q r input s t x y yes same (Made count is a e) other = absurd (made_reads q count yes is)
+one_reply q r input s t x y does same (Good reading scenario stands h a e) (Refused too fault refusal b d) = absurd (good_or_refused input scenario fault stands refusal)
+one_reply q r input s t x y does same (Good reading scenario stands h a e) (Made count is b d) = absurd (made_reads q count does (same ∙ is))
+one_reply q r input s t x y does same (Refused reading fault refusal a e) (Good too scenario stands h b d) = absurd (good_or_refused input scenario fault stands refusal)
+one_reply q r input s t x y does same (Refused reading fault refusal a e) (Refused too other refused b d) = e ∙ sym d
+one_reply q r input s t x y does same (Refused reading fault refusal a e) (Made count is b d) = absurd (made_reads q count does (same ∙ is))
+one_reply q r input s t x y does same (Made count is a e) other = absurd (made_reads q count does is)
 
 not_both : (b : Bool) → b ≡ true → b ≡ false → ⊥
-not_both b yes no = let e : true ≡ false = sym yes ∙ no in cc
+not_both b does doesnt = let e : true ≡ false = sym does ∙ doesnt in cc
 
 -- where nothing is read the status is 0
 unread_reply : (r : Request) (input : List ℕ) (s : ℕ) (text : List ℕ) → reads r ≡ false → IsReply r input s text → s ≡ 0
-unread_reply r input s text no (Good reading scenario stands h a e) = absurd (not_both (reads r) reading no)
-unread_reply r input s text no (Refused reading fault refusal a e) = absurd (not_both (reads r) reading no)
-unread_reply r input s text no (Made count is a e) = e
+unread_reply r input s text doesnt (Good reading scenario stands h a e) = absurd (not_both (reads r) reading doesnt)
+unread_reply r input s text doesnt (Refused reading fault refusal a e) = absurd (not_both (reads r) reading doesnt)
+unread_reply r input s text doesnt (Made count is a e) = e
 
 -- the bytes that were read are the input that the source told
 whole_input : (left : Option (List ℕ)) (input bytes : List ℕ) → Consumes (Some input) left bytes → IsAtEnd left → input ≡ bytes
@@ -90,10 +90,10 @@ longer None input bytes taken = absurd taken
 
 reply_read : (q r : Request) (left : Option (List ℕ)) (input bytes : List ℕ) (s t : ℕ) (x y : List ℕ) → reads q ≡ true → q ≡ r → Consumes (Some input) left bytes
     → (IsAtEnd left ⊎ (MAX_BYTES < length bytes)) → IsReply q bytes s x → IsReply r input t y → s ≡ t
-reply_read q r left input bytes s t x y yes same taken (inl end) here there =
-    one_reply q r bytes s t x y yes same here (subst (λ (i : List ℕ). IsReply r i t y) (whole_input left input bytes taken end) there)
-reply_read q r left input bytes s t x y yes same taken (inr long) here there =
-    long_reply q bytes s x yes long here ∙ sym (long_reply r input t y (sym (ap reads same) ∙ yes) (omega (arith, longer left input bytes taken)) there)
+reply_read q r left input bytes s t x y does same taken (inl end) here there =
+    one_reply q r bytes s t x y does same here (subst (λ (i : List ℕ). IsReply r i t y) (whole_input left input bytes taken end) there)
+reply_read q r left input bytes s t x y does same taken (inr long) here there =
+    long_reply q bytes s x does long here ∙ sym (long_reply r input t y (sym (ap reads same) ∙ does) (omega (arith, longer left input bytes taken)) there)
 
 no_request : (r : Request) → None ≡ Some r → ⊥
 no_request r e = cc
@@ -106,8 +106,8 @@ reads_served : (words : List (List ℕ)) (r : Request) (b : Bool) → served wor
 reads_served words r b asked e = sym (ap reads_input asked) ∙ e
 
 -- what is served is read, so that nothing is to be shown of a source that isn't
-pub unread_not : {untouched : Type 0} (words : List (List ℕ)) (r : Request) → served words ≡ Some r → reads r ≡ true → reads_input (served words) ≡ false → untouched
-unread_not words r asked yes no = absurd (not_both (reads r) yes (reads_served words r false asked no))
+pub unread_not : (untouched : Type 0) (words : List (List ℕ)) (r : Request) → served words ≡ Some r → reads r ≡ true → reads_input (served words) ≡ false → untouched
+unread_not untouched words r asked does doesnt = absurd (not_both (reads r) does (reads_served words r false asked doesnt))
 
 -- the same status is wanted of what was read and of what the source told
 one_status : (words : List (List ℕ)) (source : Source) (untouched : Type 0) (input bytes : List ℕ) (s t : ℕ) (x y : List ℕ) → Tells words source input
@@ -115,11 +115,11 @@ one_status : (words : List (List ℕ)) (source : Source) (untouched : Type 0) (i
 one_status words source untouched input bytes s t x y told read (Usage other a e) (Usage another b d) = e ∙ sym d
 one_status words source untouched input bytes s t x y told read (Usage other a e) (Reply r asked z) = absurd (nothing_served r (served words) other asked)
 one_status words source untouched input bytes s t x y told read (Reply r asked z) (Usage other b d) = absurd (nothing_served r (served words) other asked)
-one_status words source untouched input bytes s t x y told (Untouched no same) (Reply r asked z) (Reply q too u) =
-    unread_reply r bytes s x (reads_served words r false asked no) z ∙ sym (unread_reply q input t y (reads_served words q false too no) u)
-one_status words source untouched input bytes s t x y told (Input yes took) (Reply r asked z) (Reply q too u) =
-    reply_read r q source.left_now input bytes s t x y (reads_served words r true asked yes) (one_request r q (sym asked ∙ too))
-    (subst (λ (o : Option (List ℕ)). Consumes o source.left_now bytes) (told yes) took.to_limit.taken) took.whole z u
+one_status words source untouched input bytes s t x y told (Untouched doesnt same) (Reply r asked z) (Reply q too u) =
+    unread_reply r bytes s x (reads_served words r false asked doesnt) z ∙ sym (unread_reply q input t y (reads_served words q false too doesnt) u)
+one_status words source untouched input bytes s t x y told (Input does took) (Reply r asked z) (Reply q too u) =
+    reply_read r q source.left_now input bytes s t x y (reads_served words r true asked does) (one_request r q (sym asked ∙ too))
+    (subst (λ (o : Option (List ℕ)). Consumes o source.left_now bytes) (told does) took.to_limit.taken) took.whole z u
 
 -- ---- what is wanted at a status
 
@@ -158,8 +158,8 @@ others words input s text (Reply r asked z) none = absurd (nothing_served r (ser
 
 -- where nothing is read, the source is untouched
 untouched_source : (words : List (List ℕ)) (source : Source) (untouched : Type 0) (input : List ℕ) → Reads words source untouched input → reads_input (served words) ≡ false → untouched
-untouched_source words source untouched input (Untouched other same) no = same
-untouched_source words source untouched input (Input yes took) no = absurd (not_both (reads_input (served words)) yes no)
+untouched_source words source untouched input (Untouched other same) doesnt = same
+untouched_source words source untouched input (Input does took) doesnt = absurd (not_both (reads_input (served words)) does doesnt)
 
 -- ---- the call
 
@@ -195,7 +195,7 @@ ended words source sink untouched silent tame reliable status (SourceFailed r as
   no_write_failed = λ r. (λ four. omega arith, still);
   out_of_memory = λ e. absurd (omega arith);
   statuses = omega arith;
-  unread = λ no. absurd (not_both (reads r) reading (reads_served words r false asked no));
+  unread = λ doesnt. absurd (not_both (reads r) reading (reads_served words r false asked doesnt));
   taken = (fails.bytes, fails.to_limit);
   complete = λ input text told want calm quiet. absurd (calm fails.fault);
 }
@@ -212,7 +212,7 @@ ended words source sink untouched silent tame reliable status (NoMemory bytes we
   no_write_failed = λ r. (λ four. omega arith, still);
   out_of_memory = λ e. inl same;
   statuses = omega arith;
-  unread = λ no. (unread no, λ e. omega arith);
+  unread = λ doesnt. (unread doesnt, λ e. omega arith);
   taken = (bytes, well.to_limit);
   complete = λ input text told want calm quiet. inr five;
 }
@@ -231,7 +231,7 @@ ended words source sink untouched silent tame reliable status (Replied input tex
       no_write_failed = λ r. (λ four. omega arith, written.no_fault);
       out_of_memory = λ e. absurd (omega arith);
       statuses = omega arith;
-      unread = λ no. (untouched_source words source untouched input read no, λ e. omega arith);
+      unread = λ doesnt. (untouched_source words source untouched input read doesnt, λ e. omega arith);
       taken = (well.0, well.1.to_limit);
       complete = λ i t told other calm quiet. inl (is ∙ one_status words source untouched i input wanted 0 text t told read want other);
     }
@@ -250,7 +250,7 @@ ended words source sink untouched silent tame reliable status (Replied input tex
       no_write_failed = λ r. absurd (bad r);
       out_of_memory = λ e. absurd (omega arith);
       statuses = omega arith;
-      unread = λ no. (untouched_source words source untouched input read no, λ e. omega arith);
+      unread = λ doesnt. (untouched_source words source untouched input read doesnt, λ e. omega arith);
       taken = (well.0, well.1.to_limit);
       complete = λ i t told other calm quiet. absurd (quiet breaks.fault);
     }
@@ -268,7 +268,7 @@ ended words source sink untouched silent tame reliable status (Replied input tex
       no_write_failed = λ r. absurd (bad r);
       out_of_memory = λ e. absurd (omega arith);
       statuses = omega arith;
-      unread = λ no. (untouched_source words source untouched input read no, λ e. omega arith);
+      unread = λ doesnt. (untouched_source words source untouched input read doesnt, λ e. omega arith);
       taken = (well.0, well.1.to_limit);
       complete = λ i t told other calm quiet. absurd (quiet breaks.fault);
     }
@@ -286,7 +286,7 @@ ended words source sink untouched silent tame reliable status (Replied input tex
       no_write_failed = λ r. (λ four. omega arith, stops.no_fault);
       out_of_memory = λ e. inr (wanted, answer words source untouched input text wanted wanted _ read want refl stops);
       statuses = omega arith;
-      unread = λ no. (untouched_source words source untouched input read no, λ e. omega arith);
+      unread = λ doesnt. (untouched_source words source untouched input read doesnt, λ e. omega arith);
       taken = (well.0, well.1.to_limit);
       complete = λ i t told other calm quiet. inr is;
     }

@@ -39,8 +39,8 @@ pub data IsSent (sink : Sink) (reliable : Type 0) (wanted : ℕ) (text : List �
 -- written.
 pub data Course (words : List (List ℕ)) (source : Source) (sink : Sink)
     (untouched silent tame reliable : Type 0) (status : ℕ) : Type 0 where
-  SourceFailed : (request : Request) → served words ≡ Some request → reads request ≡ true → ReadFails source tame → silent
-      → (sink.faults_now ≡ sink.faults) → status ≡ 3
+  SourceFailed : (request : Request) → served words ≡ Some request → reads request ≡ true → ReadFails source tame
+      → silent → (sink.faults_now ≡ sink.faults) → status ≡ 3
       → Course words source sink untouched silent tame reliable status
   NoMemory : (bytes : List ℕ) → ReadsWell source bytes → (reads_input (served words) ≡ false → untouched) → silent
       → (sink.faults_now ≡ sink.faults)

@@ -21,8 +21,8 @@ use Rattle.tap_words.specs.declared.request.Request.TheVariants.{Check, Plain, L
 
 -- ---- the words
 
--- What is asked for is built: a check, an upgrade, the generator and a run on one thread, but not its report in JSON; nor
--- a run on many threads, nor the judge.
+-- What is asked for is built: a check, an upgrade, the generator and a run on one thread, but not its report in JSON;
+-- nor a run on many threads, nor the judge.
 abbrev pub is_built : Request → Bool
 is_built Check = true
 is_built (Plain seed json) = not json
@@ -109,8 +109,8 @@ Headline s = (file : OneFile) → one_file_of s ≡ Some file → OneFate file �
 
 -- ---- what is wanted
 
--- what is wanted of an input, with its status: of a good scenario, or at 2 the line of the first refusal; or the text of
--- the generator, whatever the input
+-- what is wanted of an input, with its status: of a good scenario, or at 2 the line of the first refusal; or the text
+-- of the generator, whatever the input
 pub data IsReply (request : Request) (input : List ℕ) (status : ℕ) (text : List ℕ) : Type 0 where
   Good : reads request ≡ true → (s : Scenario) → Stands input s → Headline s → text ≡ text_for request s
       → status ≡ status_for request s → IsReply request input status text

@@ -88,6 +88,12 @@ const EMPTY_RUN: &str =
 const UPGRADED: &str = "tapscen 2\nfile 0 1\nsetiff 0 tap0 1102\n\
     send tap0 - 0200000000010200000000020800\nsend tap0 - 0200000000010200000000020800\nread 0 100\n";
 
+/// The scenario that is made for one send.
+const GENERATED: &str = "tapscen 1\nfile 0 256\nfile 1 256\nfile 2 256\nfile 3 256\n\
+    setiff 0 tap0 5102\nsetiff 1 tap0 5102\nsetiff 2 tap0 5102\nsetiff 3 tap0 5102\nphase 2\n\
+    @0 send tap0 - 02000000000102000000000208004500002e00000000401100000a0000010a000002\
+    03e80035001a0000000000000000000000000000000000000000\nend\n";
+
 /// The status of a run, and the sink that it wrote to.
 #[derive(Drop)]
 struct Ended {
@@ -133,6 +139,7 @@ fn writes_trace_and_report(rt: HostRuntime) -> Result<(), Fail> {
         (&["plain"], EMPTY, EMPTY_RUN),
         (&["check"], TWO_SENDS, "ok 4\n"),
         (&["upgrade"], TWO_SENDS, UPGRADED),
+        (&["gen", "1"], "", GENERATED),
     ] {
         let input = Vec::from_slice(rt.alloc(), input.as_bytes())?;
         let end = plain(rt.alloc(), words, input)?;

@@ -1,6 +1,6 @@
 -- The command line that the code builds, and what its parse gives.
-use Rattle.std.proofs.Common.{◌≡◌, ℕ, Bool, true, false, List, [], ◌∷◌, map, codes, Option, Some, None, unwrap_or, option_map, refl, sym, ap, ap₂, ◌∙◌}
-use Rattle.clap.specs.Words.{App, IsAmong, Kinds, Text, all_of, app_of, fault_of, found_of, is_simple, is_simple_and_free, matched_of, matches_of, new_app, raw_values, first_value, rows_of}
+use Rattle.std.proofs.Common.{◌≡◌, true, false, List, [], ◌∷◌, codes, None, unwrap_or, option_map, refl, sym, ap, ◌∙◌}
+use Rattle.clap.specs.Words.{App, IsAmong, Kinds, Text, app_of, fault_of, found_of, is_simple, is_simple_and_free, matched_of, matches_of, new_app, raw_values, first_value, rows_of}
 use Rattle.clap.specs.Simple.{app_of_fields, on_top}
 use Rattle.clap.specs.declared.builder.command.Command.{Command}
 use Rattle.clap.specs.declared.builder.command.Command.TheViews.{out-Command}
@@ -8,9 +8,8 @@ use Rattle.clap.specs.declared.builder.command.Command.TheOpen.{Command-F}
 use Rattle.clap.specs.declared.error.kind.ErrorKind.{ErrorKind}
 use Rattle.clap.specs.declared.parser.matches.ArgMatches.{ArgMatches}
 use Rattle.clap.proofs.WalkLemmas.{first_value-rows, raw_values-rows}
-use Rattle.tap_words.specs.declared.request.Request.{Request}
 use Rattle.tap_words.specs.Parse.{Gives}
-use Rattle.tap_words.specs.Words.{asked_by, asks, bare, given, given_by, is_faultless, says_true, tapsim}
+use Rattle.tap_words.specs.Words.{asked_by, asks, bare, given, is_faultless, says_true, tapsim}
 
 pub bare_is : (n a b d : Command) → app_of n ≡ new_app (codes "tapsim")
     → out-Command a ≡ record (out-Command n) { no_binary_name = true }

@@ -1,8 +1,6 @@
 -- This project's own: words with what they ask for.
-use Rattle.std.specs.Prelude.{◌≡◌, true, false, List, [], ◌∷◌, codes, map, Option, Some, None}
-use Rattle.clap.specs.Words.{Text}
-use Rattle.tap_words.specs.declared.request.Request.{Request}
-use Rattle.tap_words.specs.declared.request.Request.TheVariants.{Check, Plain, Live, Audit, Gen, Upgrade}
+use Rattle.std.specs.Prelude.{◌≡◌, true, false, [], ◌∷◌, codes, Some, None}
+use Rattle.tap_words.specs.declared.request.Request.TheVariants.{Check, Plain, Live, Gen}
 use Rattle.tap_words.specs.Words.{asks}
 
 -- Options stand anywhere, and a value stands behind its option or behind `=`.

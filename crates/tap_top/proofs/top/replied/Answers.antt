@@ -1,4 +1,4 @@
-use Rattle.std.proofs.Common.{◌≡◌, Some, refl, sym, ap, ◌∙◌}
+use Rattle.std.proofs.Common.{refl, ap, ◌∙◌}
 use Rattle.tap_top.specs.Course.Course.{NoMemory, Replied, SourceFailed}
 use Rattle.tap_top.specs.Top.{reads_input}
 use Rattle.tap_top.specs.Top.IsWanted.{Reply}
@@ -15,7 +15,7 @@ pub returns-in-Err-NoMemory : goal.returns-in-Err-NoMemory
 returns-in-Err-NoMemory g c =
     let e = c.in-Err-NoMemory in
     let p = e.ensures.no_memory (rw e.field-0-is refl) in
-    λ words asked. NoMemory p.0 p.1 (unread_not words c.args.request asked c.requires) refl refl refl
+    λ words asked. NoMemory p.0 p.1 (unread_not _ words c.args.request asked c.requires) refl refl refl
 
 pub returns-in-Ok-reply_to : goal.returns-in-Ok-reply_to
 returns-in-Ok-reply_to g c =
@@ -27,4 +27,4 @@ returns-in-Ok-reply_to g c =
 pub returns : goal.returns
 returns g c =
     let e = c.in-Ok.ensures in
-    λ words asked. NoMemory c.in-Ok.bytes.items (record { to_limit = e.input.to_limit; no_fault = e.no_fault }) (unread_not words c.args.request asked c.requires) refl refl refl
+    λ words asked. NoMemory c.in-Ok.bytes.items (record { to_limit = e.input.to_limit; no_fault = e.no_fault }) (unread_not _ words c.args.request asked c.requires) refl refl refl

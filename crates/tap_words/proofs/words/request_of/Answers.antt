@@ -1,5 +1,5 @@
 use Rattle.std.proofs.Common.{map, string_bytes}
-use Rattle.tap_words.proofs.CommandLine.{asks_none, asks_some}
+use Rattle.tap_words.proofs.CommandLine.{asks_some}
 use Rattle.tap_words.proofs.words.request_of.Goals as goal
 
 pub returns : goal.returns
