@@ -11,5 +11,7 @@ mod operations;
 mod printing;
 mod shown;
 mod steps;
+#[cfg(test)]
+mod tests;
 
 pub use printing::print_trace;
