@@ -18,31 +18,28 @@ name_or_dash (Some name) = frame_name name
 abbrev pub of_ring : List ℕ → ℕ → ℕ → List (List ℕ) → List (List ℕ)
 of_ring word vhost ring more = word ∷ decimal vhost ∷ decimal ring ∷ more
 
--- what a step did
+-- what a step did, of vhost v and ring r
 abbrev pub kind_fields : Kind → List (List ℕ)
-kind_fields (kind.Fetch vhost ring position head) =
-    of_ring (codes "fetch") vhost ring (decimal position ∷ decimal head ∷ [])
-kind_fields (kind.None vhost ring) = of_ring (codes "none") vhost ring []
-kind_fields (kind.Crowded vhost ring) = of_ring (codes "crowded") vhost ring []
-kind_fields (kind.Halt vhost ring fault) = of_ring (codes "halt") vhost ring (decimal fault ∷ [])
-kind_fields (kind.Copy vhost ring position name) =
-    of_ring (codes "copy") vhost ring (decimal position ∷ name_or_dash name ∷ [])
-kind_fields (kind.Publish vhost ring count call) =
-    of_ring (codes "publish") vhost ring (decimal count ∷ decimal (flag call) ∷ [])
-kind_fields (kind.Notices vhost ring on) = of_ring (codes "notices") vhost ring (decimal (flag on) ∷ [])
-kind_fields (kind.Off vhost ring) = of_ring (codes "off") vhost ring []
-kind_fields (kind.Stopped vhost ring) = of_ring (codes "stopped") vhost ring []
-kind_fields (kind.Features vhost) = codes "features" ∷ decimal vhost ∷ []
-kind_fields (kind.Num vhost ring) = of_ring (codes "num") vhost ring []
-kind_fields (kind.Base vhost ring) = of_ring (codes "base") vhost ring []
-kind_fields (kind.Addr vhost ring) = of_ring (codes "addr") vhost ring []
-kind_fields (kind.GetBase vhost ring) = of_ring (codes "getbase") vhost ring []
-kind_fields (kind.Backend vhost ring set) = of_ring (codes "backend") vhost ring (decimal (flag set) ∷ [])
+kind_fields (kind.Fetch v r position head) = of_ring (codes "fetch") v r (decimal position ∷ decimal head ∷ [])
+kind_fields (kind.None v r) = of_ring (codes "none") v r []
+kind_fields (kind.Crowded v r) = of_ring (codes "crowded") v r []
+kind_fields (kind.Halt v r fault) = of_ring (codes "halt") v r (decimal fault ∷ [])
+kind_fields (kind.Copy v r position name) = of_ring (codes "copy") v r (decimal position ∷ name_or_dash name ∷ [])
+kind_fields (kind.Publish v r count call) = of_ring (codes "publish") v r (decimal count ∷ decimal (flag call) ∷ [])
+kind_fields (kind.Notices v r on) = of_ring (codes "notices") v r (decimal (flag on) ∷ [])
+kind_fields (kind.Off v r) = of_ring (codes "off") v r []
+kind_fields (kind.Stopped v r) = of_ring (codes "stopped") v r []
+kind_fields (kind.Features v) = codes "features" ∷ decimal v ∷ []
+kind_fields (kind.Num v r) = of_ring (codes "num") v r []
+kind_fields (kind.Base v r) = of_ring (codes "base") v r []
+kind_fields (kind.Addr v r) = of_ring (codes "addr") v r []
+kind_fields (kind.GetBase v r) = of_ring (codes "getbase") v r []
+kind_fields (kind.Backend v r set) = of_ring (codes "backend") v r (decimal (flag set) ∷ [])
 kind_fields kind.Poke = codes "poke" ∷ []
 kind_fields kind.Peek = codes "peek" ∷ []
-kind_fields (kind.Drive vhost ring) = of_ring (codes "drive") vhost ring []
-kind_fields (kind.Post vhost ring) = of_ring (codes "post") vhost ring []
-kind_fields (kind.Harvest vhost ring) = of_ring (codes "harvest") vhost ring []
+kind_fields (kind.Drive v r) = of_ring (codes "drive") v r []
+kind_fields (kind.Post v r) = of_ring (codes "post") v r []
+kind_fields (kind.Harvest v r) = of_ring (codes "harvest") v r []
 
 -- `step ACTOR COMMAND KIND`
 abbrev pub step_line : StepLine → List (List ℕ)
