@@ -31,9 +31,15 @@ fn drops(answers: &[AnswerLine]) -> usize
 }
 
 #[tactic(auto, unfolding(crate::specs::Output::device_fields))]
-fn put_device(out: &mut String, name: &str, read: u64, dropped: u64) -> Result<(), AllocError>
+fn put_device(
+    out: &mut String,
+    name: &DeviceName,
+    read: u64,
+    dropped: u64,
+) -> Result<(), AllocError>
     ensures { OnOk result (string_bytes out.new ≡ string_bytes out.old ++ line (device_fields name.now read dropped)) }
 {
+    let name = name.as_str();
     writeln!(out, "device {name} rx 0 tx {read} dropped {dropped}")
 }
 
@@ -62,7 +68,7 @@ fn put_total(out: &mut String, waiting: u64, read: u64, dropped: u64) -> Result<
 #[tactic(auto, unfolding(crate::specs::Output::report_lines))]
 fn put_report(
     out: &mut String,
-    name: &str,
+    name: &DeviceName,
     waiting: u64,
     read: u64,
     dropped: u64,
@@ -140,7 +146,7 @@ fn output_on(
     let placed = outcome.lines.len() as u64;
     let dropped = drops(outcome.answers.as_slice()) as u64;
     let mut out = print_trace(alloc, &trace_of(alloc, name, outcome)?)?;
-    put_report(&mut out, name.as_str(), placed - read, read, dropped)?;
+    put_report(&mut out, name, placed - read, read, dropped)?;
     Ok(out)
 }
 
