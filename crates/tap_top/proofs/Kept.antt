@@ -12,9 +12,9 @@ use Rattle.scen_words.specs.declared.command.Command.{Command}
 use Rattle.scen_words.specs.declared.command.Command.TheVariants.{Send}
 use Rattle.tap_ledger.specs.declared.fate.Cause.TheVariants.{Full}
 use Rattle.tap_ledger.specs.declared.fate.Fate.TheVariants as fate
-use Rattle.trace_text.specs.declared.trace.Answer.{Answer}
-use Rattle.trace_text.specs.declared.trace.Answer.TheVariants.{Placed, Dropped, Read, Again}
-use Rattle.trace_text.specs.declared.trace.PlaceLine.{PlaceLine}
+use Rattle.tap_trace.specs.declared.answer.Answer.{Answer}
+use Rattle.tap_trace.specs.declared.answer.Answer.TheVariants.{Placed, Dropped, Read, Again}
+use Rattle.tap_trace.specs.declared.trace.PlaceLine.{PlaceLine}
 use Rattle.tap_top.specs.declared.placed.Placed as known
 use Rattle.tap_top.specs.Engine.{Keeps, entry_of, line_with, lines_from, placed_of}
 use Rattle.tap_top.specs.Output.{place_lines}

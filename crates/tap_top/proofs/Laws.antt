@@ -12,9 +12,9 @@ use Rattle.scen_words.specs.declared.command.Command.{Command}
 use Rattle.scen_words.specs.declared.command.Command.TheVariants as command
 use Rattle.tap_ledger.specs.declared.fate.Cause.TheVariants.{Full}
 use Rattle.tap_top.specs.OneFile.{OneFile}
-use Rattle.trace_text.specs.declared.trace.Answer.{Answer}
-use Rattle.trace_text.specs.declared.trace.Answer.TheVariants.{Dropped, Placed}
-use Rattle.trace_text.specs.declared.trace.AnswerLine.{AnswerLine}
+use Rattle.tap_trace.specs.declared.answer.Answer.{Answer}
+use Rattle.tap_trace.specs.declared.answer.Answer.TheVariants.{Dropped, Placed}
+use Rattle.tap_trace.specs.declared.trace.AnswerLine.{AnswerLine}
 use Rattle.tap_top.specs.Run.{Entry, answer_to, answer_to_read, answer_to_send, answers, ethernet, first_waiting, line_after, line_after_send, line_of, new_entry, read_first, reads, waiting, waits}
 use Rattle.tap_top.specs.Output.{is_drop}
 use Rattle.tap_top.specs.Headline.{InOrder, OneFate, drops_of, entries_of, frame_read, frames_read, has_frame, sends_frame}

@@ -9,9 +9,9 @@ use Rattle.scen_words.specs.declared.command.Command.{Command}
 use Rattle.scen_words.specs.declared.command.Command.TheVariants.{Send, Read}
 use Rattle.tap_ledger.specs.declared.fate.Fate.{Fate}
 use Rattle.tap_ledger.specs.declared.fate.Fate.TheVariants as fate
-use Rattle.trace_text.specs.declared.trace.AnswerLine.{AnswerLine}
-use Rattle.trace_text.specs.declared.trace.PlaceLine.{PlaceLine}
-use Rattle.trace_text.specs.declared.trace.Trace.{Trace}
+use Rattle.tap_trace.specs.declared.trace.AnswerLine.{AnswerLine}
+use Rattle.tap_trace.specs.declared.trace.PlaceLine.{PlaceLine}
+use Rattle.tap_trace.specs.declared.trace.Trace.{Trace}
 use Rattle.scen_words.specs.Field.{text}
 use Rattle.trace_text.specs.TraceText.{trace_text}
 use Rattle.tap_top.specs.Output.{drops, is_drop, output_with, place_lines, report_lines, trace_with}

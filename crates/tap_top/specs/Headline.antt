@@ -7,9 +7,9 @@ use Rattle.scen_words.specs.declared.command.Command.{Command}
 use Rattle.scen_words.specs.declared.command.Command.TheVariants as command
 use Rattle.tap_ledger.specs.declared.fate.Fate.TheVariants as fate
 use Rattle.tap_top.specs.OneFile.{OneFile}
-use Rattle.trace_text.specs.declared.trace.Answer.{Answer}
-use Rattle.trace_text.specs.declared.trace.Answer.TheVariants.{Version, Bad, Placed, Dropped, Read, Again}
-use Rattle.trace_text.specs.declared.trace.AnswerLine.{AnswerLine}
+use Rattle.tap_trace.specs.declared.answer.Answer.{Answer}
+use Rattle.tap_trace.specs.declared.answer.Answer.TheVariants.{Read}
+use Rattle.tap_trace.specs.declared.trace.AnswerLine.{AnswerLine}
 use Rattle.tap_top.specs.Run.{Entry, ethernet}
 use Rattle.tap_top.specs.Output.{is_drop, run_answers, run_line}
 
@@ -44,12 +44,8 @@ OneFate f =
 
 -- the frames that answers say were read, in the order of the answers
 abbrev pub frame_read : Answer → List Name
-frame_read (Version version) = []
-frame_read (Bad bad) = []
-frame_read (Placed file place epoch len) = []
-frame_read (Dropped file cause) = []
 frame_read (Read name place bytes) = name ∷ []
-frame_read (Again place) = []
+frame_read a = []
 
 abbrev pub frames_read : List AnswerLine → List Name
 frames_read answers = flat_map (λ a. frame_read a.answer) answers

@@ -3,12 +3,12 @@ use Rattle.std.specs.Prelude.{ℕ, ◌+◌, Bool, true, false, List, [], ◌∷�
 use Rattle.std.specs.Fmt.{decimal}
 use Rattle.scen_words.specs.declared.command.Command.{Command}
 use Rattle.tap_top.specs.OneFile.{OneFile}
-use Rattle.trace_text.specs.declared.trace.Answer.{Answer}
-use Rattle.trace_text.specs.declared.trace.Answer.TheVariants.{Version, Bad, Placed, Dropped, Read, Again}
-use Rattle.trace_text.specs.declared.trace.AnswerLine.{AnswerLine}
-use Rattle.trace_text.specs.declared.trace.OpText.TheVariants.{SetIff}
-use Rattle.trace_text.specs.declared.trace.PlaceLine.{PlaceLine}
-use Rattle.trace_text.specs.declared.trace.Trace.{Trace}
+use Rattle.tap_trace.specs.declared.answer.Answer.{Answer}
+use Rattle.tap_trace.specs.declared.answer.Answer.TheVariants.{Dropped}
+use Rattle.tap_trace.specs.declared.trace.AnswerLine.{AnswerLine}
+use Rattle.tap_trace.specs.declared.trace.OpText.TheVariants.{SetIff}
+use Rattle.tap_trace.specs.declared.trace.PlaceLine.{PlaceLine}
+use Rattle.tap_trace.specs.declared.trace.Trace.{Trace}
 use Rattle.scen_words.specs.Field.{text}
 use Rattle.trace_text.specs.TraceText.{trace_text}
 use Rattle.tap_top.specs.Run.{Entry, answers, line_of, reads, waiting}
@@ -41,17 +41,15 @@ trace_with name answers lines freed = record {
     answers = answers;
   } ∷ [];
   files = record { file = 0; claimed = length lines; freed = freed; lines = lines } ∷ [];
+  guests = [];
+  rings = [];
 }
 
 -- ---- the report
 
 abbrev pub is_drop : Answer → Bool
 is_drop (Dropped file cause) = true
-is_drop (Version version) = false
-is_drop (Bad bad) = false
-is_drop (Placed file place epoch len) = false
-is_drop (Read name place bytes) = false
-is_drop (Again place) = false
+is_drop a = false
 
 abbrev pub drops : List AnswerLine → ℕ
 drops answers = count_by (λ a. is_drop a.answer) answers

@@ -12,9 +12,9 @@ use Rattle.scen_words.specs.declared.command.Command.TheVariants as command
 use Rattle.tap_ledger.specs.declared.fate.Cause.TheVariants.{Full}
 use Rattle.tap_ledger.specs.declared.fate.Fate.{Fate}
 use Rattle.tap_ledger.specs.declared.fate.Fate.TheVariants as fate
-use Rattle.trace_text.specs.declared.trace.Answer.{Answer}
-use Rattle.trace_text.specs.declared.trace.Answer.TheVariants.{Version, Bad, Placed, Dropped, Read, Again}
-use Rattle.trace_text.specs.declared.trace.AnswerLine.{AnswerLine}
+use Rattle.tap_trace.specs.declared.answer.Answer.{Answer}
+use Rattle.tap_trace.specs.declared.answer.Answer.TheVariants.{Version, Bad, Placed, Dropped, Read, Again}
+use Rattle.tap_trace.specs.declared.trace.AnswerLine.{AnswerLine}
 
 -- ---- the line of the file
 

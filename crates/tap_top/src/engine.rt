@@ -11,7 +11,8 @@ use std::alloc::{AllocError, AllocFailed, Global};
 use std::collections::VecDeque;
 use std::marker::Model;
 use tap_frame::{BadFrame, Frame, Name, Shape, read_frame};
-use trace_text::{Answer, Cause, PlaceLine};
+use tap_ledger::Cause;
+use tap_trace::{Answer, PlaceLine};
 
 /// One file with a ring of so many places: the frames that wait in it, the name and the length of each frame
 /// that was placed, and how many of these were read.

@@ -7,7 +7,8 @@ ghost use Rattle.tap_top.specs.Engine.{lines_from};
 use crate::placed::Placed;
 use sqlite_items::Items;
 use std::alloc::{AllocError, Global};
-use trace_text::{Fate, PlaceLine};
+use tap_ledger::Fate;
+use tap_trace::PlaceLine;
 
 fn line_at(place: usize, placed: Placed, read: usize) -> PlaceLine
     ensures { result ≡ record {

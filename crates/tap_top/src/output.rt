@@ -1,7 +1,7 @@
 //! The trace and the report of a run, and their text.
 
 ghost use Rattle.std.specs.Prelude.{◌≡◌, ◌+◌, ◌<◌, ◌^◌, ◌++◌, ◌∷◌, [], List, OnOk, IfOk, string_bytes, option_map, count_by, length};
-ghost use Rattle.trace_text.specs.declared.trace.OpText.TheVariants.{SetIff as Attach};
+ghost use Rattle.tap_trace.specs.declared.trace.OpText.TheVariants.{SetIff as Attach};
 ghost use Rattle.scen_words.specs.Field.{line, text};
 ghost use Rattle.tap_top.specs.OneFile.{one_file_of};
 ghost use Rattle.tap_top.specs.Output.{device_fields, file_fields, total_fields, output_with, drops, is_drop, empty_output, output_of, place_lines, report_lines, trace_with};
@@ -13,9 +13,9 @@ use scen_text::{Command, Scenario};
 use sqlite_items::Items;
 use std::alloc::{AllocError, Global};
 use std::fmt::Write;
-use trace_text::{
-    Answer, AnswerLine, FilePart, OpLine, OpText, PhasePart, Text, Trace, print_trace,
-};
+use tap_trace::{Answer, AnswerLine, FilePart, OpLine, OpText, PhasePart, Trace};
+use text_fields::DeviceName;
+use trace_text::print_trace;
 
 /// Nothing happened.
 const EMPTY: &str = "taptrace 1\nend\nreport\ntotal accepted 0 waiting 0 delivered 0 discarded 0\n";
@@ -31,9 +31,15 @@ fn drops(answers: &[AnswerLine]) -> usize
 }
 
 #[tactic(auto, unfolding(crate::specs::Output::device_fields))]
-fn put_device(out: &mut String, name: &str, read: u64, dropped: u64) -> Result<(), AllocError>
+fn put_device(
+    out: &mut String,
+    name: &DeviceName,
+    read: u64,
+    dropped: u64,
+) -> Result<(), AllocError>
     ensures { OnOk result (string_bytes out.new ≡ string_bytes out.old ++ line (device_fields name.now read dropped)) }
 {
+    let name = name.as_str();
     writeln!(out, "device {name} rx 0 tx {read} dropped {dropped}")
 }
 
@@ -62,7 +68,7 @@ fn put_total(out: &mut String, waiting: u64, read: u64, dropped: u64) -> Result<
 #[tactic(auto, unfolding(crate::specs::Output::report_lines))]
 fn put_report(
     out: &mut String,
-    name: &str,
+    name: &DeviceName,
     waiting: u64,
     read: u64,
     dropped: u64,
@@ -77,7 +83,7 @@ fn put_report(
     put_total(out, waiting, read, dropped)
 }
 
-fn ops(alloc: Global, name: &str) -> Result<Items<OpLine>, AllocError>
+fn ops(alloc: Global, name: &DeviceName) -> Result<Items<OpLine>, AllocError>
     ensures { IfOk result (λ ops. ops ≡ record { version = 1; command = 0; text = Attach 0 name.now 0x1102 } ∷ []) }
 {
     let mut ops = Items::new(alloc);
@@ -86,7 +92,7 @@ fn ops(alloc: Global, name: &str) -> Result<Items<OpLine>, AllocError>
         command: 0,
         text: OpText::SetIff {
             file: 0,
-            name: Text::new(String::from_str(alloc, name)?),
+            name: name.duplicate(),
             flags: 0x1102,
         },
     })?;
@@ -95,7 +101,7 @@ fn ops(alloc: Global, name: &str) -> Result<Items<OpLine>, AllocError>
 
 /// The trace of a run on the device of this name.
 #[tactic(auto, unfolding(crate::specs::Output::trace_with))]
-fn trace_of(alloc: Global, name: &str, outcome: Outcome) -> Result<Trace, AllocError>
+fn trace_of(alloc: Global, name: &DeviceName, outcome: Outcome) -> Result<Trace, AllocError>
     ensures { IfOk result (λ trace. trace ≡ trace_with name.now outcome.answers outcome.lines outcome.read) }
 {
     let Outcome {
@@ -116,7 +122,12 @@ fn trace_of(alloc: Global, name: &str, outcome: Outcome) -> Result<Trace, AllocE
         freed: read,
         lines,
     })?;
-    Ok(Trace { phases, files })
+    Ok(Trace {
+        phases,
+        files,
+        guests: Items::new(alloc),
+        rings: Items::new(alloc),
+    })
 }
 
 /// The trace and the report of the run of these commands, on a file with a ring of so many places that is
@@ -124,7 +135,7 @@ fn trace_of(alloc: Global, name: &str, outcome: Outcome) -> Result<Trace, AllocE
 fn output_on(
     alloc: Global,
     capacity: u16,
-    name: &str,
+    name: &DeviceName,
     commands: &[Command],
 ) -> Result<String, AllocError>
     requires { length commands.now < 2 ^ 32 }
@@ -149,7 +160,7 @@ pub fn output_of(alloc: Global, scenario: &Scenario) -> Result<Option<String>, A
     let commands = commands_in(scenario.phases.as_slice());
     match (capacity, name, commands) {
         (Some(capacity), Some(name), Some(commands)) => {
-            Ok(Some(output_on(alloc, capacity, name.as_str(), commands)?))
+            Ok(Some(output_on(alloc, capacity, name, commands)?))
         }
         _ => Ok(None),
     }

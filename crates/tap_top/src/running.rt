@@ -9,7 +9,7 @@ use crate::engine::Engine;
 use scen_text::Command;
 use sqlite_items::Items;
 use std::alloc::{AllocError, Global};
-use trace_text::{Answer, AnswerLine, PlaceLine};
+use tap_trace::{Answer, AnswerLine, PlaceLine};
 
 /// What a run did: its answers, the line of its file, and how many frames were read.
 #[derive(Drop)]

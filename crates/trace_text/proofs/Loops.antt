@@ -3,9 +3,9 @@ use Rattle.std.proofs.Common.{◌≡◌, ℕ, suc, ◌+◌, ◌<◌, List, [], �
 use Rattle.std.specs.List.{flat_map}
 use Rattle.std.proofs.lemmas.List.{take_more, map_push, append-nil, length-take}
 use Rattle.std.proofs.lemmas.List.Concat.{flat_map-append}
-use Rattle.trace_text.specs.declared.trace.PhasePart.{PhasePart}
+use Rattle.tap_trace.specs.declared.trace.PhasePart.{PhasePart}
 use Rattle.scen_words.specs.Field.{line, text}
-use Rattle.trace_text.specs.TraceText.{phase_part, phase_parts}
+use Rattle.trace_text.specs.Parts.{phase_part, phase_parts}
 
 pub text-append : (xs ys : List (List (List ℕ))) → text (xs ++ ys) ≡ text xs ++ text ys
 text-append xs ys = flat_map-append line xs ys

@@ -1,13 +1,17 @@
-//! Traces as plain data, and their texts.
+//! The texts of traces.
 //!
-//! A [`Trace`] is what a run did: published operations, answers, and the line of each file. To a contract it is a
-//! record of numbers and lists. `specs/TraceText.antt` has its text.
+//! `specs/TraceText.antt` has the text of a trace, which is lines made of fields. `specs/Parts.antt` has its parts,
+//! `specs/Operations.antt`, `specs/Answers.antt` and `specs/Steps.antt` their lines, and `specs/Causes.antt` the causes.
 #![tactic(auto)]
 
+mod answers;
+mod causes;
+mod dropped;
+mod operations;
 mod printing;
-mod trace;
+mod shown;
+mod steps;
+#[cfg(test)]
+mod tests;
 
 pub use printing::print_trace;
-pub use tap_ledger::{Cause, Fate};
-pub use text_fields::Text;
-pub use trace::{Answer, AnswerLine, FilePart, OpLine, OpText, PhasePart, PlaceLine, Trace};

@@ -1,4 +1,4 @@
-use Rattle.trace_text.specs.TraceText.{file_part}
+use Rattle.trace_text.specs.Parts.{file_part}
 use Rattle.trace_text.proofs.Loops.{text_more_parts}
 use Rattle.trace_text.proofs.printing.put_files.Goals as goal
 

@@ -1,6 +1,6 @@
 use Rattle.std.proofs.Common.{◌≡◌, ◌++◌, take, string_bytes}
 use Rattle.scen_words.specs.Field.{text}
-use Rattle.trace_text.specs.TraceText.{phase_parts}
+use Rattle.trace_text.specs.Parts.{phase_parts}
 use Rattle.trace_text.proofs.printing.put_phases.Given as goal
 
 abbrev pub invariant-loop-number : goal.invariant-loop-number

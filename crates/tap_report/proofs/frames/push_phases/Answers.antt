@@ -1,0 +1,7 @@
+use Rattle.std.proofs.Common.{[], refl}
+use Rattle.tap_report.specs.Frames.{phase_frames}
+use Rattle.tap_report.proofs.Loops.{appended}
+use Rattle.tap_report.proofs.frames.push_phases.Goals as goal
+
+pub loop-phase-preserved : goal.loop-phase-preserved
+loop-phase-preserved c = appended (phase_frames c.args.index.now) c.args.out.now _ _ c.args.phases.now c.loop-phase.phase-index c.phase-item.result _ c.loop-phase-test.true c.phase-item.is c.loop-phase.invariant c.in_ok-push_phase.ensures

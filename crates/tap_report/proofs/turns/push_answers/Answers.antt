@@ -1,0 +1,7 @@
+use Rattle.std.proofs.Common.{[], refl}
+use Rattle.tap_report.specs.Turns.{answer_turn}
+use Rattle.tap_report.proofs.Loops.{appended}
+use Rattle.tap_report.proofs.turns.push_answers.Goals as goal
+
+pub loop-answer-preserved : goal.loop-answer-preserved
+loop-answer-preserved c = appended (answer_turn c.args.roles.now) c.args.out.now _ _ c.args.answers.now c.loop-answer.answer-index c.answer-item.result _ c.loop-answer-test.true c.answer-item.is c.loop-answer.invariant c.in_ok-push_answer.ensures

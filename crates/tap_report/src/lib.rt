@@ -1,0 +1,25 @@
+//! The report of a run: what became of its frames, by device, by file and by ring.
+//!
+//! [`report`] counts over a scenario and its trace. `specs/Index.antt` says for which device a frame counts,
+//! `specs/Frames.antt` which frames there are, `specs/Turns.antt` what the turns and the steps of a ring say, and
+//! `specs/Rows.antt` what is counted; `specs/ReportText.antt` and `specs/Json.antt` have the two texts of the report.
+//! `specs/Following.antt` says what may follow a trace.
+#![tactic(auto)]
+
+mod following;
+mod frames;
+mod index;
+mod json;
+mod printing;
+mod rings;
+mod rows;
+mod summary;
+#[cfg(test)]
+mod tests;
+mod turns;
+
+pub use following::may_follow;
+pub use json::report_json;
+pub use printing::report_text;
+pub use rows::report;
+pub use summary::{DeviceRow, FileRow, RingRow, Summary};

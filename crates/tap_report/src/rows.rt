@@ -1,0 +1,272 @@
+//! The report counted.
+
+ghost use Rattle.std.specs.Prelude.{◌≡◌, ◌<◌, ◌^◌, IfOk, OnOk, map, sum_by};
+ghost use Rattle.tap_ledger.specs.Counters.{Counts};
+ghost use Rattle.tap_ledger.specs.declared.fate.Fate.{Fate};
+ghost use Rattle.tap_report.specs.declared.frames.Counted.{Counted};
+ghost use Rattle.tap_report.specs.Rows.{IsReport, device_row, device_rows, fate_and_len, file_row, frames_of_run, is_cut, is_drop, is_dropped, is_guest, is_of, is_overrun, is_purged, is_read, is_received, is_transmitted, is_waiting, of_device, of_line};
+
+use crate::frames::{Counted, frames};
+use crate::index::index_of;
+use crate::rings::ring_rows;
+use crate::summary::{DeviceRow, FileRow, Summary};
+use crate::turns::turns;
+use scen_text::Scenario;
+use sqlite_items::Items;
+use std::alloc::{AllocError, Global};
+use tap_ledger::{Cause, Counters, Fate};
+use tap_trace::{FilePart, PlaceLine, Trace};
+use text_fields::DeviceName;
+
+fn is_of(device: usize, of: Option<usize>) -> bool
+    ensures { result ≡ is_of device of }
+{
+    match of {
+        None => false,
+        Some(number) => number == device,
+    }
+}
+
+fn is_received(fate: Fate) -> bool
+    ensures { result ≡ is_received fate }
+{
+    match fate {
+        Fate::Host => true,
+        _ => false,
+    }
+}
+
+fn is_transmitted(fate: Fate) -> bool
+    ensures { result ≡ is_transmitted fate }
+{
+    match fate {
+        Fate::Read | Fate::Guest => true,
+        _ => false,
+    }
+}
+
+fn is_drop(cause: Cause) -> bool
+    ensures { result ≡ is_drop cause }
+{
+    match cause {
+        Cause::Purged => false,
+        Cause::Overrun {
+            need: _,
+            quota: _,
+            had: _,
+        } => false,
+        Cause::Cut => false,
+        _ => true,
+    }
+}
+
+fn is_dropped(fate: Fate) -> bool
+    ensures { result ≡ is_dropped fate }
+{
+    match fate {
+        Fate::Discarded(cause) => is_drop(cause),
+        _ => false,
+    }
+}
+
+fn received(frames: &[Counted], device: usize) -> u64
+    ensures { result ≡ of_device device is_received frames.now }
+{
+    frames
+        .iter()
+        .filter(|f| is_of(device, f.device) && is_received(f.fate))
+        .count() as u64
+}
+
+fn transmitted(frames: &[Counted], device: usize) -> u64
+    ensures { result ≡ of_device device is_transmitted frames.now }
+{
+    frames
+        .iter()
+        .filter(|f| is_of(device, f.device) && is_transmitted(f.fate))
+        .count() as u64
+}
+
+fn dropped(frames: &[Counted], device: usize) -> u64
+    ensures { result ≡ of_device device is_dropped frames.now }
+{
+    frames
+        .iter()
+        .filter(|f| is_of(device, f.device) && is_dropped(f.fate))
+        .count() as u64
+}
+
+fn device_row(frames: &[Counted], device: usize, name: &DeviceName) -> DeviceRow
+    ensures { result ≡ device_row frames.now device name.now }
+{
+    DeviceRow {
+        name: name.duplicate(),
+        rx: received(frames, device),
+        tx: transmitted(frames, device),
+        dropped: dropped(frames, device),
+    }
+}
+
+fn device_rows(
+    alloc: Global,
+    frames: &[Counted],
+    names: &[DeviceName],
+) -> Result<Items<DeviceRow>, AllocError>
+    ensures { IfOk result (λ r. r ≡ device_rows frames.now 0 names.now) }
+{
+    let mut rows = Items::new(alloc);
+    for (device, name) in names.iter().enumerate() {
+        rows.push(device_row(frames, device, name))?;
+    }
+    Ok(rows)
+}
+
+fn waiting(lines: &[PlaceLine]) -> u64
+    ensures { result ≡ of_line is_waiting lines.now }
+{
+    lines.iter().filter(|l| is_waiting(l.fate)).count() as u64
+}
+
+fn is_waiting(fate: Fate) -> bool
+    ensures { result ≡ is_waiting fate }
+{
+    match fate {
+        Fate::Waiting => true,
+        _ => false,
+    }
+}
+
+fn read(lines: &[PlaceLine]) -> u64
+    ensures { result ≡ of_line is_read lines.now }
+{
+    lines.iter().filter(|l| is_read(l.fate)).count() as u64
+}
+
+fn is_read(fate: Fate) -> bool
+    ensures { result ≡ is_read fate }
+{
+    match fate {
+        Fate::Read => true,
+        _ => false,
+    }
+}
+
+fn guest(lines: &[PlaceLine]) -> u64
+    ensures { result ≡ of_line is_guest lines.now }
+{
+    lines.iter().filter(|l| is_guest(l.fate)).count() as u64
+}
+
+fn is_guest(fate: Fate) -> bool
+    ensures { result ≡ is_guest fate }
+{
+    match fate {
+        Fate::Guest => true,
+        _ => false,
+    }
+}
+
+fn purged(lines: &[PlaceLine]) -> u64
+    ensures { result ≡ of_line is_purged lines.now }
+{
+    lines.iter().filter(|l| is_purged(l.fate)).count() as u64
+}
+
+fn is_purged(fate: Fate) -> bool
+    ensures { result ≡ is_purged fate }
+{
+    match fate {
+        Fate::Discarded(Cause::Purged) => true,
+        _ => false,
+    }
+}
+
+fn overrun(lines: &[PlaceLine]) -> u64
+    ensures { result ≡ of_line is_overrun lines.now }
+{
+    lines.iter().filter(|l| is_overrun(l.fate)).count() as u64
+}
+
+fn is_overrun(fate: Fate) -> bool
+    ensures { result ≡ is_overrun fate }
+{
+    match fate {
+        Fate::Discarded(Cause::Overrun { .. }) => true,
+        _ => false,
+    }
+}
+
+fn cut(lines: &[PlaceLine]) -> u64
+    ensures { result ≡ of_line is_cut lines.now }
+{
+    lines.iter().filter(|l| is_cut(l.fate)).count() as u64
+}
+
+fn is_cut(fate: Fate) -> bool
+    ensures { result ≡ is_cut fate }
+{
+    match fate {
+        Fate::Discarded(Cause::Cut) => true,
+        _ => false,
+    }
+}
+
+fn file_row(part: &FilePart) -> FileRow
+    ensures { result ≡ file_row part.now }
+{
+    let lines = part.lines.as_slice();
+    FileRow {
+        file: part.file,
+        waiting: waiting(lines),
+        read: read(lines),
+        guest: guest(lines),
+        purged: purged(lines),
+        overrun: overrun(lines),
+        cut: cut(lines),
+    }
+}
+
+fn file_rows(alloc: Global, parts: &[FilePart]) -> Result<Items<FileRow>, AllocError>
+    ensures { IfOk result (λ r. r ≡ map file_row parts.now) }
+{
+    let mut rows = Items::new(alloc);
+    for part in parts {
+        rows.push(file_row(part))?;
+    }
+    Ok(rows)
+}
+
+fn total(frames: &[Counted]) -> Counters
+    requires { sum_by (λ (f : Counted). f.len) frames.now < 2 ^ 64 }
+    ensures { Counts result (map fate_and_len frames.now) }
+{
+    let mut counters = Counters::new();
+    for frame in frames {
+        counters.count(&frame.fate, frame.len);
+    }
+    counters
+}
+
+/// The report of a trace of a scenario. The lengths of its frames come to less than 2^64.
+pub fn report(alloc: Global, scenario: &Scenario, trace: &Trace) -> Result<Summary, AllocError>
+    requires { sum_by (λ (f : Counted). f.len) (frames_of_run scenario.now trace.now) < 2 ^ 64 }
+    ensures { IfOk result (λ r. IsReport scenario.now trace.now r) }
+{
+    let index = index_of(alloc, scenario, trace)?;
+    let frames = frames(alloc, &index, trace)?;
+    let roles = index.roles.as_slice();
+    let turns = turns(alloc, roles, trace.phases.as_slice())?;
+    let guests = trace.guests.as_slice();
+    Ok(Summary {
+        devices: device_rows(alloc, frames.as_slice(), scenario.names.as_slice())?,
+        files: file_rows(alloc, trace.files.as_slice())?,
+        rings: ring_rows(
+            alloc,
+            roles,
+            turns.as_slice(),
+            guests,
+            trace.rings.as_slice(),
+        )?,
+        total: total(frames.as_slice()),
+    })
+}
