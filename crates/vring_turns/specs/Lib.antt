@@ -4,6 +4,7 @@ pub mod TransmitBytes
 pub mod Turn
 pub mod TxTurn
 pub mod RxTurn
+pub mod Hands
 pub mod Example
 pub mod TxExamples
 pub mod RxExamples
