@@ -9,3 +9,4 @@
 #![tactic(auto)]
 
 mod chains;
+mod lay;
