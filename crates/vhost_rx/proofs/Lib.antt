@@ -1,2 +1,3 @@
 mod Splits
 mod Writes
+mod Takes

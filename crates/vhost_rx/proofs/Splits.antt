@@ -1,12 +1,19 @@
 -- Chains whose segments stand one after the other.
 use Rattle.std.proofs.Common.{◌≡◌, ℕ, Bool, zero, suc, ◌+◌, ◌-◌, ◌*◌, ◌^◌, ◌≤◌, min, List, [], ◌∷◌, ◌++◌, length, take, drop, All, IsTrue, refl, sym, ap, ◌∙◌, subst, arith, add_assoc, zero-add}
-use Rattle.std.proofs.lemmas.List.{take-append-drop, take-append-le, drop-append-le, length-drop, length-append}
-use Rattle.std.proofs.Math.Seq.{take-length, drop-length}
+use Rattle.std.proofs.lemmas.List.{take-append-drop, take-append-le, drop-append-le, length-drop, length-append, get_or-drop}
+use Rattle.std.proofs.lemmas.List.Elements.{All-append, All-take}
+use Rattle.std.proofs.Math.Seq.{take-length, drop-length, drop-append_seam}
 use Rattle.vring_split.specs.declared.segment.Segment.{Segment}
 use Rattle.vring_turns.specs.Ring.{Gathered, bytes_in, room_in, segments_of, LieIn}
 use Rattle.vring_turns.specs.ReceiveImage.{shares}
 use Rattle.vhost_rx.specs.declared.chains.Chain.{Chain}
 use Rattle.vhost_rx.specs.Kept.{split_into, AreSplit, kept_shares}
+
+-- what holds of each element holds of each behind some
+All-dropped : {X : Type 0} (P : X → Type 0) → (n : ℕ) (xs : List X) → All P xs → All P (drop n xs)
+All-dropped P n xs h = λ k d lt.
+    let e = length-drop n xs in
+    subst P (sym (get_or-drop n xs k d)) (h (n + k) d (omega arith))
 
 -- there are as many chains as are kept
 pub length-split_into : (cs : List Chain) (ss : List Segment) → length (split_into cs ss) ≡ length cs
@@ -79,3 +86,32 @@ shares-split_into (c ∷ cs) ss n h =
     rw (← h.1)
     (ap (λ ds. record { head = c.head; len = min c.bytes n } ∷ ds)
         (shares-split_into cs (drop c.segments ss) (n - c.bytes) h.2))
+
+-- the segments of chains that lie in a memory lie there, and the other way round
+pub LieIn-all :
+    (covers : ℕ → ℕ → Bool) (xs : List Gathered)
+    → LieIn covers xs → All (λ s. IsTrue (covers s.addr s.len)) (segments_of xs)
+LieIn-all covers [] h = λ k d lt. absurd (omega arith)
+LieIn-all covers (x ∷ xs) h =
+    All-append (λ s. IsTrue (covers s.addr s.len)) x.segments (segments_of xs) h.0 (LieIn-all covers xs h.1)
+
+pub LieIn-split_into :
+    (covers : ℕ → ℕ → Bool) (cs : List Chain) (ss : List Segment)
+    → All (λ s. IsTrue (covers s.addr s.len)) ss → LieIn covers (split_into cs ss)
+LieIn-split_into covers [] ss h = tt
+LieIn-split_into covers (c ∷ cs) ss h =
+    let P : Segment → Type 0 = λ s. IsTrue (covers s.addr s.len) in
+    (All-take P c.segments ss h, LieIn-split_into covers cs (drop c.segments ss) (All-dropped P c.segments ss h))
+
+pub all_kept :
+    (covers : ℕ → ℕ → Bool) (cs : List Chain) (ss : List Segment)
+    → AreSplit cs ss → LieIn covers (split_into cs ss) → All (λ s. IsTrue (covers s.addr s.len)) ss
+all_kept covers cs ss h lies =
+    let P : List Segment → Type 0 = λ xs. All (λ s. IsTrue (covers s.addr s.len)) xs in
+    subst P (segments_of-split_into cs ss h) (LieIn-all covers (split_into cs ss) lies)
+
+-- what stands behind the old segments
+pub new_part :
+    (old new more : List Segment) (before : ℕ)
+    → before ≡ length old → new ≡ old ++ more → drop before new ≡ more
+new_part old new more before e n = rw (e, n) (drop-append_seam old more)

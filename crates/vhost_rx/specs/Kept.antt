@@ -25,6 +25,7 @@ chains_of c = split_into c.kept.items c.room
 
 pub record HasChains (c : Inside) : Type 0 where
   pub split : AreSplit c.kept.items c.room
+  pub counted : vec_len c.kept ≡ length c.kept.items
   pub places : 1024 ≤ vec_capacity c.kept
   pub had : c.had ≡ room_in (split_into c.kept.items c.room)
   pub small : c.had ≤ 2 ^ 32 * length c.room

@@ -63,6 +63,32 @@ fn bytes_of(segments: &[Segment]) -> u64
     bytes
 }
 
+// The chain of a head, whose segments are those behind the first ones.
+fn chain_behind(head: u16, segments: &[Segment], before: usize) -> Chain
+    requires within { before ≤ length segments.now }
+    requires few { length segments.now ≤ 1024 }
+    ensures head { result.head ≡ head }
+    ensures segments { result.segments ≡ length (drop before segments.now) }
+    ensures bytes { result.bytes ≡ bytes_in (drop before segments.now) }
+    ensures small { result.bytes ≤ 2 ^ 32 * length (drop before segments.now) }
+{
+    let new = &segments[before..];
+    Chain {
+        head,
+        segments: new.len() as u16,
+        bytes: bytes_of(new),
+    }
+}
+
+// Whether segments lie in a memory.
+fn segments_lie_in(mem: &Memory, segments: &[Segment]) -> bool
+    ensures { IsTrue result ↔ All (λ s. IsTrue (covers mem.now.regions s.addr s.len)) segments.now }
+{
+    segments
+        .iter()
+        .all(|segment| mem.covers(segment.addr, u64::from(segment.len)))
+}
+
 impl Chains {
     /// None, with memory for all that one frame may go into.
     pub fn new(alloc: Global) -> Result<Chains, AllocError>
@@ -111,12 +137,7 @@ impl Chains {
         let before = self.room.list().len();
         let found = fetch(mem, ring, position, &mut self.room);
         if let Fetched::Chain { head } = found {
-            let new = &self.room.list()[before..];
-            let chain = Chain {
-                head,
-                segments: new.len() as u16,
-                bytes: bytes_of(new),
-            };
+            let chain = chain_behind(head, self.room.list(), before);
             self.had += chain.bytes;
             self.kept.push_reserved(chain);
         }
@@ -149,10 +170,7 @@ impl Chains {
     pub fn lie_in(&self, mem: &Memory) -> bool
         ensures { IsTrue result ↔ LieIn (covers mem.now.regions) self.now }
     {
-        self.room
-            .list()
-            .iter()
-            .all(|segment| mem.covers(segment.addr, u64::from(segment.len)))
+        segments_lie_in(mem, self.room.list())
     }
 }
 

@@ -1,5 +1,5 @@
 //! Bytes over segments.
-ghost use Rattle.std.specs.Prelude.{◌≡◌, ◌+◌, ◌≤◌, ◌++◌, length, take, drop, IsTrue, All};
+ghost use Rattle.std.specs.Prelude.{◌≡◌, ◌+◌, ◌<◌, ◌≤◌, ◌++◌, length, take, drop, IsTrue, All};
 ghost use Rattle.guest_mem.specs.Memory.{covers, written};
 ghost use Rattle.vring_walk.specs.Spread.{laid};
 
@@ -19,19 +19,16 @@ fn write_all(mem: &mut Memory, addr: u64, bytes: &[u8])
 
 // Writes bytes from an address on, and others behind them.
 fn write_both(mem: &mut Memory, addr: u64, front: &[u8], behind: &[u8])
-    requires { IsTrue (covers mem.old.regions addr (length front.now + length behind.now)) }
+    requires some { 0 < length behind.now }
+    requires covered { IsTrue (covers mem.old.regions addr (length front.now + length behind.now)) }
     ensures { mem.new ≡ written mem.old addr (front.now ++ behind.now) }
 {
     range_laws();
     byte_laws();
     write_laws();
     let _ = mem.regions();
-    if behind.is_empty() {
-        write_all(mem, addr, front);
-    } else {
-        write_all(mem, addr, front);
-        write_all(mem, addr + front.len() as u64, behind);
-    }
+    write_all(mem, addr, front);
+    write_all(mem, addr + front.len() as u64, behind);
 }
 
 // Writes so many bytes of two slices, one behind the other, from a place of them on.

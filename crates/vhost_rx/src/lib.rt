@@ -10,3 +10,7 @@
 
 mod chains;
 mod lay;
+mod stages;
+mod worker;
+
+pub use crate::worker::{RxStep, RxWorker};

@@ -6,6 +6,7 @@ use Rattle.vhost_rx.proofs.chains.finish_all.Given as goal
 
 abbrev pub invariant-loop-chain : goal.invariant-loop-chain
 invariant-loop-chain l = record {
+  small : l.left ≤ l.initial.left;
   gathered : l.vq.queue.positions.gathered + l.chain-index ≡ length l.kept;
   room : length l.kept ≤ room_of l.vq + l.chain-index;
   done : record l.vq { queue = record l.vq.queue {
