@@ -9,14 +9,18 @@ use Rattle.tap_frame.specs.declared.name.Name.{Name}
 use Rattle.tap_frame.specs.Frame.{FrameValue}
 use Rattle.tap_ledger.specs.declared.act.Act.{Act}
 use Rattle.vring_turns.specs.declared.end.End.{End}
-use Rattle.vring_turns.specs.declared.end.End.TheVariants.{Stopped}
+use Rattle.vring_turns.specs.declared.end.End.TheVariants.{Stopped, Off, NoMemory}
 use Rattle.vring_turns.specs.declared.stage.RxStage.{RxStage}
 use Rattle.vring_turns.specs.declared.stage.RxStage.TheVariants as stage
 use Rattle.vring_turns.specs.declared.stage.After.{After}
 use Rattle.vring_turns.specs.declared.stage.After.TheVariants as after
 use Rattle.vring_turns.specs.Ring.{Ring, done_in, room_in}
 use Rattle.vring_turns.specs.ReceiveImage.{need_of}
-use Rattle.vring_turns.specs.RxTurn.{RxTurn, RxState, quota, rx_at}
+use Rattle.vring_turns.specs.RxTurn.{RxTurn, RxState, quota, rx_at, rx_hands, rx_step}
+use Rattle.vring_turns.specs.Hands.{Hands, Moves}
+use Rattle.tap_ledger.specs.declared.hand.Hand.{Hand}
+use Rattle.tap_ledger.specs.declared.hand.Hand.TheVariants as hand
+use Rattle.tap_ledger.specs.Queue.{QueueState}
 
 -- a worker: its turn, and the layout and the position that its ring's queue has
 pub record Worker : Type 0 where
@@ -33,12 +37,12 @@ abbrev pub ring_of : Worker → Queue → Ring
 ring_of w q = record { queue = q; chains = w.turn.chains }
 
 -- how many bytes the frame in hand needs
+abbrev pub need_at : ℕ → Option FrameValue → ℕ
+need_at size None = 0
+need_at size (Some frame) = need_of size frame
+
 abbrev pub need_in : RxTurn → ℕ
 need_in t = need_at t.header t.held
-  where
-    abbrev pub need_at : ℕ → Option FrameValue → ℕ
-    need_at size None = 0
-    need_at size (Some frame) = need_of size frame
 
 -- What a stage says.
 
@@ -151,6 +155,32 @@ name_in_hand w = option_map (λ f. f.name) w.turn.held
 abbrev pub Changes : (RxState → Option (RxState × Act)) → Worker → Queue → Contents → Worker → Queue → Contents → Act → Type 0
 Changes change w q m w' q' m' told = change (state_of w q m) ≡ Some (state_of w' q' m', told)
 
+-- what a queue handed out ends the turn
+abbrev pub EndsBy : Hand → End → Type 0
+EndsBy hand.Off end = end ≡ Off
+EndsBy hand.NoMemory end = end ≡ NoMemory
+EndsBy (hand.Got frame) end = ⊥
+EndsBy (hand.NotReady place) end = ⊥
+
 -- the worker whose turn ended without an event
 abbrev pub ended_by : End → Worker → Worker
 ended_by end w = record w { turn = rx_at (stage.Ended end) w.turn }
+
+-- a frame was taken in hand, or none was ready
+pub record HandsOut (w w' : Worker) (q : Queue) (old new : QueueState) (told : Act) : Type 0 where
+  pub hand : Hand
+  pub hands : Hands hand old new
+  pub step : (m : Contents) → rx_hands hand (state_of w q m) ≡ Some (state_of w' q m, told)
+
+-- a step made the event that comes next, and moved the queue of frames so
+pub record Stepped (before after : RxState) (old new : QueueState) (told : Act) : Type 0 where
+  pub hand : Hand
+  pub moves : Moves before.turn hand old new
+  pub step : rx_step hand before ≡ Some (after, told)
+
+-- a step made no event: the queue of frames was off, or found no memory
+pub record Ended (w : Worker) (old new : QueueState) (end : End) : Type 0 where
+  pub at : w.turn.stage ≡ stage.Hand
+  pub hand : Hand
+  pub hands : Hands hand old new
+  pub why : EndsBy hand end

@@ -2,8 +2,11 @@
 ghost use Rattle.std.specs.Prelude.{◌≡◌, ◌+◌, ◌<◌, ◌≤◌, ◌++◌, length, take, drop, IsTrue, All};
 ghost use Rattle.guest_mem.specs.Memory.{covers, written};
 ghost use Rattle.vring_walk.specs.Spread.{laid};
+ghost use Rattle.std.specs.Int.{w16, to_le_bytes};
 
 use guest_mem::{Memory, byte_laws, range_laws, write_laws};
+use tap_frame::Hdr;
+use vring_split::le16_bytes_of;
 use vring_walk::Segment;
 
 // Writes bytes from an address on.
@@ -62,4 +65,16 @@ pub fn lay(mem: &mut Memory, segments: &[Segment], front: &[u8], behind: &[u8])
         write_part(mem, segment.addr, front, behind, at, len);
         at += len;
     }
+}
+
+/// What stands in front of a frame that goes into so many chains: the first bytes of its header, and the
+/// number of chains where a header has it.
+pub fn front_of(header: Hdr, count: u16) -> [u8; 12]
+    ensures short { take 10 result ≡ header.bytes }
+    ensures long { result ≡ header.bytes ++ to_le_bytes w16 count }
+{
+    let mut front = [0u8; 12];
+    front[..10].copy_from_slice(&header.bytes);
+    front[10..].copy_from_slice(&le16_bytes_of(count));
+    front
 }

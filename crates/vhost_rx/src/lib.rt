@@ -11,6 +11,8 @@
 mod chains;
 mod lay;
 mod stages;
+mod steps;
+mod ways;
 mod worker;
 
 pub use crate::worker::{RxStep, RxWorker};

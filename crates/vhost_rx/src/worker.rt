@@ -155,7 +155,8 @@ impl RxWorker {
             && (!counts || self.bytes < 524_288)
             && (!copies_after(self.stage) || self.handled < 1024)
             && (!few_done_at(self.stage) || vq.unpublished() < 64)
-            && 2047 + u64::from(vq.unpublished()) <= vq.reserved() as u64 + u64::from(self.handled)
+            && (2047 + u64::from(vq.unpublished())).saturating_sub(u64::from(self.handled))
+                <= vq.reserved() as u64
     }
 
     // How many bytes the frame in hand needs.
