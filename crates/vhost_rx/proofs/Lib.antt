@@ -1,3 +1,4 @@
 mod Splits
 mod Writes
 mod Takes
+mod Fetched
