@@ -2,3 +2,4 @@ mod Splits
 mod Writes
 mod Takes
 mod Fetched
+mod Copied

@@ -16,7 +16,8 @@ use Rattle.vring_turns.specs.declared.stage.After.{After}
 use Rattle.vring_turns.specs.declared.stage.After.TheVariants as after
 use Rattle.vring_turns.specs.Ring.{Ring, done_in, room_in}
 use Rattle.vring_turns.specs.ReceiveImage.{need_of}
-use Rattle.vring_turns.specs.RxTurn.{RxTurn, RxState, quota, rx_at, rx_hands, rx_step}
+use Rattle.vring_turns.specs.RxTurn.{RxTurn, RxState, quota, rx_at, rx_hands, rx_step, rx_without_event}
+use Rattle.vring_turns.specs.declared.step.Step.{Step}
 use Rattle.vring_turns.specs.Hands.{Hands, Moves}
 use Rattle.tap_ledger.specs.declared.hand.Hand.{Hand}
 use Rattle.tap_ledger.specs.declared.hand.Hand.TheVariants as hand
@@ -184,3 +185,10 @@ pub record Ended (w : Worker) (old new : QueueState) (end : End) : Type 0 where
   pub hand : Hand
   pub hands : Hands hand old new
   pub why : EndsBy hand end
+
+-- and its step tells the end alone
+pub record EndsUntold (w w' : Worker) (result : Step) (old new : QueueState) : Type 0 where
+  pub end : End
+  pub ended : Ended w old new end
+  pub worker : w' ≡ ended_by end w
+  pub told : result ≡ rx_without_event w.turn end

@@ -1,18 +1,20 @@
 //! What the worker does at each stage.
-ghost use Rattle.std.specs.Prelude.{◌≡◌, ◌+◌, ◌<◌, ◌≤◌, not, ◌||◌, false, true, [], length, None, Some, IfSome, IfOk, IfErr, OnOk, if◌then◌else◌};
+ghost use Rattle.std.specs.Prelude.{◌≡◌, ◌+◌, ◌<◌, ◌≤◌, not, ◌||◌, false, true, [], length, None, Some, IfSome, IfOk, IfErr, IfNone, OnOk, OnErr, if◌then◌else◌};
 ghost use Rattle.guest_mem.specs.Memory.{Contents, covers};
 ghost use Rattle.vhost_queue.specs.Queue.{IsGood, room_of};
 ghost use Rattle.vring_turns.specs.Ring.{LieIn, noticed, found, joined, all_rewound, room_in};
 ghost use Rattle.vring_turns.specs.ReceiveImage.{copies_in, num_buffers};
-ghost use Rattle.vring_turns.specs.RxTurn.{rx_after_packet, goes_on, gathers, rx_after_second, rx_fetches, rx_copies, rx_publishes, rx_outs, rx_puts_back, rx_made, rx_ring, rx_next, rx_at, quota};
+ghost use Rattle.vring_turns.specs.RxTurn.{rx_after_packet, goes_on, stage_of, gathers, rx_after_second, rx_fetches, rx_copies, rx_publishes, rx_outs, rx_puts_back, rx_made, rx_ring, rx_told, overrun, rx_next, rx_at, quota};
+ghost use Rattle.tap_ledger.specs.declared.hand.Hand.{Hand as Handed};
 ghost use Rattle.tap_ledger.specs.Queue.{IsFinal, finished, put_back};
-ghost use Rattle.vhost_rx.specs.Worker.{HandsOut, Ended, name_in_hand, counts_at, holds_at, IsSteady, Fits, Changes, state_of, ring_of, need_in, ended_by};
+ghost use Rattle.vring_turns.specs.Turn.{event_of, IfMore};
+ghost use Rattle.vhost_rx.specs.Worker.{HandsOut, Ended, EndsUntold, Stepped, is_over, name_in_hand, counts_at, holds_at, IsSteady, Fits, Changes, state_of, ring_of, need_in, ended_by};
 
 use crate::lay::front_of;
 use crate::ways::{after_fetch, after_second, closing, rewinds, stage_of, told_of};
 use crate::worker::{RxStep, RxWorker};
 use guest_mem::Memory;
-use tap_ledger::{Act, Fate, FrameQueue, Hand};
+use tap_ledger::{Act, Cause, Fate, FrameQueue, Hand};
 use vhost_queue::Vq;
 use vring_turns::{After, End, RxStage};
 use vring_walk::Fetched;
@@ -303,5 +305,158 @@ impl RxWorker {
             Some(end) => RxStage::Ended(end),
         };
         Act::Publish { count, call }
+    }
+
+    // Turns notices off again after a second fetch, and goes its way.
+    fn notices_off(&mut self, vq: &mut Vq, mem: &mut Memory, after: After) -> Act
+        requires good { IsGood vq.old.queue mem.old }
+        requires steady { IsSteady self.old vq.old }
+        requires stage { self.old.turn.stage ≡ RxStage.NoticesOff after }
+        ensures step { Changes (λ s. Some (rx_made (noticed false (rx_ring s) s.memory) (stage_of after) s))
+            self.old vq.old.queue mem.old self.new vq.new.queue mem.new result }
+        ensures steady { IsSteady self.new vq.new }
+        ensures chains { self.new.turn.chains ≡ self.old.turn.chains }
+        ensures held { self.new.turn.held ≡ self.old.turn.held }
+        ensures layout { vq.new.queue.layout ≡ vq.old.queue.layout }
+        ensures regions { mem.new.regions ≡ mem.old.regions }
+    {
+        self.notices(vq, mem, false, stage_of(after))
+    }
+
+    // Turns notices off at the beginning, or on where no chain was there, and goes on.
+    fn notices_first(&mut self, vq: &mut Vq, mem: &mut Memory) -> Act
+        requires good { IsGood vq.old.queue mem.old }
+        requires steady { IsSteady self.old vq.old }
+        requires stage { self.old.turn.stage ≡ RxStage.Begin }
+        ensures step { (h : Handed) → Changes (rx_next RxStage.Begin h)
+            self.old vq.old.queue mem.old self.new vq.new.queue mem.new result }
+        ensures steady { IsSteady self.new vq.new }
+        ensures chains { self.new.turn.chains ≡ self.old.turn.chains }
+        ensures held { self.new.turn.held ≡ self.old.turn.held }
+        ensures layout { vq.new.queue.layout ≡ vq.old.queue.layout }
+        ensures regions { mem.new.regions ≡ mem.old.regions }
+    {
+        self.notices(vq, mem, false, RxStage::Hand)
+    }
+
+    // Turns notices on where no chain was there.
+    fn notices_on(&mut self, vq: &mut Vq, mem: &mut Memory) -> Act
+        requires good { IsGood vq.old.queue mem.old }
+        requires steady { IsSteady self.old vq.old }
+        requires stage { self.old.turn.stage ≡ RxStage.NoticesOn }
+        ensures step { (h : Handed) → Changes (rx_next RxStage.NoticesOn h)
+            self.old vq.old.queue mem.old self.new vq.new.queue mem.new result }
+        ensures steady { IsSteady self.new vq.new }
+        ensures chains { self.new.turn.chains ≡ self.old.turn.chains }
+        ensures held { self.new.turn.held ≡ self.old.turn.held }
+        ensures layout { vq.new.queue.layout ≡ vq.old.queue.layout }
+        ensures regions { mem.new.regions ≡ mem.old.regions }
+    {
+        self.notices(vq, mem, true, RxStage::FetchAgain)
+    }
+
+    // The event that comes next, or why the turn ended without one.
+    fn event<Q: FrameQueue>(
+        &mut self,
+        vq: &mut Vq,
+        q: &mut Q,
+        mem: &mut Memory,
+    ) -> Result<Act, End>
+        requires fits { Fits self.old vq.old }
+        requires good { IsGood vq.old.queue mem.old }
+        requires lies { LieIn (covers mem.old.regions) self.old.turn.chains }
+        requires in_hand { (Q.queue q.old).in_hand ≡ name_in_hand self.old }
+        ensures event { IfOk result (Stepped (state_of self.old vq.old.queue mem.old)
+            (state_of self.new vq.new.queue mem.new) (Q.queue q.old) (Q.queue q.new)) }
+        ensures steady { OnOk result (IsSteady self.new vq.new) }
+        ensures in_hand { OnOk result ((Q.queue q.new).in_hand ≡ name_in_hand self.new) }
+        ensures ended { IfErr result (Ended self.old (Q.queue q.old) (Q.queue q.new)) }
+        ensures worker { IfErr result (λ end. self.new ≡ ended_by end self.old) }
+        ensures queue { OnErr result (vq.new ≡ vq.old) }
+        ensures memory { OnErr result (mem.new ≡ mem.old) }
+        ensures lies { LieIn (covers mem.new.regions) self.new.turn.chains }
+        ensures layout { vq.new.queue.layout ≡ vq.old.queue.layout }
+        ensures regions { mem.new.regions ≡ mem.old.regions }
+    {
+        match self.stage {
+            RxStage::Begin => Ok(self.notices_first(vq, mem)),
+            RxStage::Hand => self.hand(vq, q),
+            RxStage::Fetch => Ok(self.fetch(vq, mem)),
+            RxStage::NoticesOn => Ok(self.notices_on(vq, mem)),
+            RxStage::FetchAgain => Ok(self.fetch_again(vq, mem)),
+            RxStage::NoticesOff { after } => Ok(self.notices_off(vq, mem, after)),
+            RxStage::Copy => Ok(self.copy(vq, mem)),
+            RxStage::Out => {
+                let bytes = self.need();
+                Ok(self.out(vq, q, Fate::Guest, bytes))
+            }
+            RxStage::Discard { had } => {
+                let fate = self.overrun(had);
+                Ok(self.out(vq, q, fate, 0))
+            }
+            RxStage::PutBack { end } => Ok(self.put_back(vq, q, end)),
+            RxStage::Publish { end } => Ok(self.publish(vq, mem, end)),
+            RxStage::Ended(_) => unreachable!(),
+        }
+    }
+
+    // The fate of a frame whose chains had so many bytes only.
+    fn overrun(&self, had: u64) -> Fate
+        ensures fate { result ≡ overrun self.now.turn.mergeable (need_in self.now.turn) had }
+        ensures may_be { IsFinal result }
+    {
+        Fate::Discarded(Cause::Overrun {
+            need: self.need(),
+            quota: self.quota() as u16,
+            had,
+        })
+    }
+
+    // What a step answers that made an event.
+    fn told(&self, act: Act) -> RxStep
+        ensures told { result ≡ rx_told self.now.turn self.now.turn.stage act }
+        ensures event { event_of result ≡ Some act }
+        ensures more { IfMore result (is_over self.now.turn.stage ≡ false) }
+    {
+        match self.stage {
+            RxStage::Ended(end) => RxStep::Ended {
+                act: Some(act),
+                turn: self.report(end),
+            },
+            _ => RxStep::More(act),
+        }
+    }
+
+    /// Makes the one event that comes next, and tells it.
+    ///
+    /// The turn is over where it tells a report. Then the last event is told with it; where the queue of
+    /// frames was off or found no memory, none was made, and nothing but the turn and that queue changed.
+    pub fn step<Q: FrameQueue>(&mut self, vq: &mut Vq, q: &mut Q, mem: &mut Memory) -> RxStep
+        requires fits { Fits self.old vq.old }
+        requires good { IsGood vq.old.queue mem.old }
+        requires lies { LieIn (covers mem.old.regions) self.old.turn.chains }
+        requires in_hand { (Q.queue q.old).in_hand ≡ name_in_hand self.old }
+
+        ensures event { IfSome (event_of result) (Stepped (state_of self.old vq.old.queue mem.old)
+            (state_of self.new vq.new.queue mem.new) (Q.queue q.old) (Q.queue q.new)) }
+        ensures told { IfSome (event_of result) (λ act. result ≡ rx_told self.new.turn self.new.turn.stage act) }
+
+        ensures ended { IfNone (event_of result) (EndsUntold self.old self.new result (Q.queue q.old) (Q.queue q.new)) }
+        ensures queue { IfNone (event_of result) (vq.new ≡ vq.old) }
+        ensures memory { IfNone (event_of result) (mem.new ≡ mem.old) }
+
+        ensures fits { IfMore result (Fits self.new vq.new) }
+        ensures in_hand { IfMore result ((Q.queue q.new).in_hand ≡ name_in_hand self.new) }
+        ensures good { IsGood vq.new.queue mem.new }
+        ensures lies { LieIn (covers mem.new.regions) self.new.turn.chains }
+        ensures regions { mem.new.regions ≡ mem.old.regions }
+    {
+        match self.event(vq, q, mem) {
+            Ok(act) => self.told(act),
+            Err(end) => RxStep::Ended {
+                act: None,
+                turn: self.report(end),
+            },
+        }
     }
 }

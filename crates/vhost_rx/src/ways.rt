@@ -1,7 +1,7 @@
 //! How a receive turn goes on after a fetch.
-ghost use Rattle.std.specs.Prelude.{◌≡◌, None, IfSome};
-ghost use Rattle.vring_turns.specs.Ring.{told_of};
-ghost use Rattle.vring_turns.specs.RxTurn.{rx_closing, stage_of, gives_up, rx_after_fetch, rx_rewinds};
+ghost use Rattle.std.specs.Prelude.{◌≡◌, List};
+ghost use Rattle.vring_turns.specs.Ring.{Gathered, room_in, told_of};
+ghost use Rattle.vring_turns.specs.RxTurn.{rx_closing, stage_of, gives_up, rx_after_fetch, rx_after_second, rx_rewinds};
 
 use tap_ledger::Act;
 use vhost_queue::Vq;
@@ -74,8 +74,7 @@ pub fn after_fetch(way: Option<After>) -> RxStage
 
 /// Where it stands after the second fetch, for a frame that needs so many bytes and chains that have so many.
 pub fn after_second(need: u32, had: u64, way: Option<After>) -> RxStage
-    ensures none { way ≡ None → result ≡ RxStage.PutBack (End.Short need had) }
-    ensures some { IfSome way (λ after. result ≡ RxStage.NoticesOff after) }
+    ensures { (chains : List Gathered) → room_in chains ≡ had → result ≡ rx_after_second need chains way }
 {
     match way {
         Some(after) => RxStage::NoticesOff { after },
