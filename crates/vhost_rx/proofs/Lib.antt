@@ -3,3 +3,4 @@ mod Writes
 mod Takes
 mod Fetched
 mod Copied
+mod Events

@@ -241,10 +241,12 @@ impl RxWorker {
         requires none { self.old.turn.chains ≡ [] }
         requires may_be { IsFinal fate }
         requires small { bytes ≤ 65547 }
+        requires unstopped { vq.now.queue.stopped ≡ None }
         requires held { (Q.queue q.old).in_hand ≡ name_in_hand self.old }
         ensures step { IfSome self.old.turn.held (λ frame. (m : Contents)
             → rx_outs bytes frame (state_of self.old vq.now.queue m) ≡ (state_of self.new vq.now.queue m, result)) }
         ensures moved { IfSome self.old.turn.held (λ frame. Q.queue q.new ≡ finished frame fate (Q.queue q.old)) }
+        ensures steady { IsSteady self.new vq.now }
         ensures chains { self.new.turn.chains ≡ [] }
         ensures free { (Q.queue q.new).in_hand ≡ None }
         ensures none_held { self.new.turn.held ≡ None }
