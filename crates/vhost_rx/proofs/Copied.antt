@@ -39,14 +39,18 @@ pub copied_steady :
     (w : Worker) (r : Reserved) (n : ℕ)
     → IsSteady w r → w.turn.stage ≡ stage.Copy
     → IsSteady
-        (record w { turn = record w.turn {
-          handled = w.turn.handled + length w.turn.chains;
-          chains = [];
-          stage = stage.Out;
-        } })
-        (record r { queue = record r.queue {
-          positions = with_all_done (shares w.turn.chains n) r.queue.positions;
-        } })
+    (record w {
+      turn = record w.turn {
+        handled = w.turn.handled + length w.turn.chains;
+        chains = [];
+        stage = stage.Out;
+      };
+    })
+    (record r {
+      queue = record r.queue {
+        positions = with_all_done (shares w.turn.chains n) r.queue.positions;
+      };
+    })
 copied_steady w r n s e =
     let ds = shares w.turn.chains n in
     let k = length-shares w.turn.chains n in

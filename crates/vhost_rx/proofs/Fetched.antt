@@ -205,27 +205,27 @@ chain_steady :
     → (holds ≡ true → need_in w.turn ≤ room_in ring.chains) → (holds ≡ false → room_in ring.chains < need_in w.turn)
     → (full ≡ false → length ring.chains < quota w.turn.mergeable)
     → let way = Some (way_by holds full (room_in ring.chains)) in
-      IsSteady (behind w (settled (rx_rewinds second way) ring) (stage_after second (need_in w.turn) w.turn.chains way))
-          (reserved_in r (settled (rx_rewinds second way) ring))
+    IsSteady (behind w (settled (rx_rewinds second way) ring) (stage_after second (need_in w.turn) w.turn.chains way))
+    (reserved_in r (settled (rx_rewinds second way) ring))
 chain_steady w r ring false true full l k s most holds short fewer =
     steady_at w r ring stage.Copy l k (enough_says w ring stage.Copy refl refl s refl refl most (holds refl))
 chain_steady w r ring true true full l k s most holds short fewer =
     steady_at w r ring (stage.NoticesOff after.Copy) l k
-        (enough_says w ring (stage.NoticesOff after.Copy) refl refl s refl refl most (holds refl))
+    (enough_says w ring (stage.NoticesOff after.Copy) refl refl s refl refl most (holds refl))
 chain_steady w r ring false false true l k s most holds short fewer =
     let had = room_in ring.chains in
     steady_at w r (all_rewound ring) (stage.Discard had) l (keeps_none r ring k)
-        (no_chain w ring (stage.Discard had) refl refl s refl refl (omega (arith, l.fewer)))
+    (no_chain w ring (stage.Discard had) refl refl s refl refl (omega (arith, l.fewer)))
 chain_steady w r ring true false true l k s most holds short fewer =
     let had = room_in ring.chains in
     steady_at w r (all_rewound ring) (stage.NoticesOff (after.Discard had)) l (keeps_none r ring k)
-        (no_chain w ring (stage.NoticesOff (after.Discard had)) refl refl s refl refl (omega (arith, l.fewer)))
+    (no_chain w ring (stage.NoticesOff (after.Discard had)) refl refl s refl refl (omega (arith, l.fewer)))
 chain_steady w r ring false false false l k s most holds short fewer =
     steady_at w r ring stage.Fetch l k
-        (more_says w ring stage.Fetch refl refl s refl refl (fewer refl) (short refl))
+    (more_says w ring stage.Fetch refl refl s refl refl (fewer refl) (short refl))
 chain_steady w r ring true false false l k s most holds short fewer =
     steady_at w r ring (stage.NoticesOff after.Fetch) l k
-        (more_says w ring (stage.NoticesOff after.Fetch) refl refl s refl refl (fewer refl) (short refl))
+    (more_says w ring (stage.NoticesOff after.Fetch) refl refl s refl refl (fewer refl) (short refl))
 
 le_true : (a b : ℕ) → nat_le a b ≡ true → a ≤ b
 le_true a b e = grind (arith, nat_tests)
@@ -238,46 +238,46 @@ fetched_steady :
     (w : Worker) (r : Reserved) (f : Fetched) (segments : List Segment) (second : Bool)
     → Loose w r
     → let ring = joined f segments (ring_of w r.queue) in
-      let way = goes_on w.turn.mergeable (need_in w.turn) ring.chains f in
-      IsSteady (behind w (settled (rx_rewinds second way) ring) (stage_after second (need_in w.turn) w.turn.chains way))
-          (reserved_in r (settled (rx_rewinds second way) ring))
+    let way = goes_on w.turn.mergeable (need_in w.turn) ring.chains f in
+    IsSteady (behind w (settled (rx_rewinds second way) ring) (stage_after second (need_in w.turn) w.turn.chains way))
+    (reserved_in r (settled (rx_rewinds second way) ring))
 fetched_steady w r (Chain head) segments second l =
     let ring = joined (Chain head) segments (ring_of w r.queue) in
     let n = length-append w.turn.chains (record { head = head; segments = segments } ∷ []) in
     chain_steady w r ring second
-        (nat_le (need_in w.turn) (room_in ring.chains)) (nat_le (quota w.turn.mergeable) (length ring.chains))
-        l (keeps_joined w r (Chain head) segments l) l.stopped (omega (arith, n, l.fewer))
-        (le_true (need_in w.turn) (room_in ring.chains)) (le_false (need_in w.turn) (room_in ring.chains))
-        (le_false (quota w.turn.mergeable) (length ring.chains))
+    (nat_le (need_in w.turn) (room_in ring.chains)) (nat_le (quota w.turn.mergeable) (length ring.chains))
+    l (keeps_joined w r (Chain head) segments l) l.stopped (omega (arith, n, l.fewer))
+    (le_true (need_in w.turn) (room_in ring.chains)) (le_false (need_in w.turn) (room_in ring.chains))
+    (le_false (quota w.turn.mergeable) (length ring.chains))
 fetched_steady w r Nothing segments false l =
     let ring = ring_of w r.queue in
     steady_at w r ring stage.NoticesOn l (keeps_joined w r Nothing segments l)
-        (more_says w ring stage.NoticesOn refl refl l.stopped refl refl l.fewer l.short)
+    (more_says w ring stage.NoticesOn refl refl l.stopped refl refl l.fewer l.short)
 fetched_steady w r Nothing segments true l =
     let ring = ring_of w r.queue in
     let st = stage.PutBack (Short (need_in w.turn) (room_in w.turn.chains)) in
     steady_at w r (all_rewound ring) st l (keeps_none r ring (keeps_joined w r Nothing segments l))
-        (no_chain w ring st refl refl l.stopped refl refl (omega (arith, l.fewer)))
+    (no_chain w ring st refl refl l.stopped refl refl (omega (arith, l.fewer)))
 fetched_steady w r Crowded segments false l =
     let ring = ring_of w r.queue in
     let st = stage.Discard (room_in w.turn.chains) in
     steady_at w r (all_rewound ring) st l (keeps_none r ring (keeps_joined w r Crowded segments l))
-        (no_chain w ring st refl refl l.stopped refl refl (omega (arith, l.fewer)))
+    (no_chain w ring st refl refl l.stopped refl refl (omega (arith, l.fewer)))
 fetched_steady w r Crowded segments true l =
     let ring = ring_of w r.queue in
     let st = stage.NoticesOff (after.Discard (room_in w.turn.chains)) in
     steady_at w r (all_rewound ring) st l (keeps_none r ring (keeps_joined w r Crowded segments l))
-        (no_chain w ring st refl refl l.stopped refl refl (omega (arith, l.fewer)))
+    (no_chain w ring st refl refl l.stopped refl refl (omega (arith, l.fewer)))
 fetched_steady w r (Bad fault) segments false l =
     let ring = joined (Bad fault) segments (ring_of w r.queue) in
     let st = stage.PutBack (Stopped fault) in
     steady_at w r (all_rewound ring) st l (keeps_none r ring (keeps_joined w r (Bad fault) segments l))
-        (no_chain w ring st refl refl refl refl refl (omega (arith, l.fewer)))
+    (no_chain w ring st refl refl refl refl refl (omega (arith, l.fewer)))
 fetched_steady w r (Bad fault) segments true l =
     let ring = joined (Bad fault) segments (ring_of w r.queue) in
     let st = stage.NoticesOff (after.PutBack (Stopped fault)) in
     steady_at w r (all_rewound ring) st l (keeps_none r ring (keeps_joined w r (Bad fault) segments l))
-        (no_chain w ring st refl refl refl refl refl (omega (arith, l.fewer)))
+    (no_chain w ring st refl refl refl refl refl (omega (arith, l.fewer)))
 
 -- the same, told of what the parts of a step gave
 pub settled_steady :

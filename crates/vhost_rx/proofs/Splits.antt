@@ -34,14 +34,14 @@ pub split_into-more :
     → split_into (cs ++ c ∷ []) (ss ++ new) ≡ split_into cs ss ++ record { head = c.head; segments = new } ∷ []
 split_into-more [] ss new c h e =
     let all : take c.segments (ss ++ new) ≡ new =
-        rw (h, e) (take-length new) in
+    rw (h, e) (take-length new) in
     ap (λ (segments : List Segment). record { head = c.head; segments = segments } ∷ []) all
 split_into-more (k ∷ ks) ss new c h e =
     let first : take k.segments (ss ++ new) ≡ take k.segments ss = take-append-le k.segments ss new h.0 in
     let rest : drop k.segments (ss ++ new) ≡ drop k.segments ss ++ new = drop-append-le k.segments ss new h.0 in
     rw (first, rest)
     (ap (λ chains. record { head = k.head; segments = take k.segments ss } ∷ chains)
-        (split_into-more ks (drop k.segments ss) new c h.2 e))
+    (split_into-more ks (drop k.segments ss) new c h.2 e))
 
 pub AreSplit-more :
     (cs : List Chain) (ss new : List Segment) (c : Chain)
@@ -49,15 +49,14 @@ pub AreSplit-more :
     → AreSplit (cs ++ c ∷ []) (ss ++ new)
 AreSplit-more [] ss new c h e b =
     let P : List Segment → Type 0 = λ xs.
-        (c.segments ≤ length xs) × (c.bytes ≡ bytes_in (take c.segments xs)) × (drop c.segments xs ≡ []) in
+    (c.segments ≤ length xs) × (c.bytes ≡ bytes_in (take c.segments xs)) × (drop c.segments xs ≡ []) in
     let all : ss ++ new ≡ new = ap (λ xs. xs ++ new) h in
     let t : take c.segments new ≡ new = rw e (take-length new) in
     let d : drop c.segments new ≡ [] = rw e (drop-length new) in
     subst P (sym all) (omega (arith, e), b ∙ ap bytes_in (sym t), d)
 AreSplit-more (k ∷ ks) ss new c h e b =
     let first : take k.segments (ss ++ new) ≡ take k.segments ss = take-append-le k.segments ss new h.0 in
-    let rest : drop k.segments (ss ++ new) ≡ drop k.segments ss ++ new = drop-append-le k.segments ss new h.0 in
-    (
+    let rest : drop k.segments (ss ++ new) ≡ drop k.segments ss ++ new = drop-append-le k.segments ss new h.0 in (
       omega (arith, h.0, length-append ss new),
       h.1 ∙ ap bytes_in (sym first),
       subst (λ (xs : List Segment). AreSplit (ks ++ c ∷ []) xs) (sym rest)
@@ -85,7 +84,7 @@ shares-split_into [] ss n h = refl
 shares-split_into (c ∷ cs) ss n h =
     rw (← h.1)
     (ap (λ ds. record { head = c.head; len = min c.bytes n } ∷ ds)
-        (shares-split_into cs (drop c.segments ss) (n - c.bytes) h.2))
+    (shares-split_into cs (drop c.segments ss) (n - c.bytes) h.2))
 
 -- the segments of chains that lie in a memory lie there, and the other way round
 pub LieIn-all :

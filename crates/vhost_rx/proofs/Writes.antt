@@ -17,7 +17,6 @@ below p q z l = grind (arith, nat_tests)
 above : (p q z : ℕ) → q ≤ z → (nat_le p z && nat_lt z q) ≡ false
 above p q z l = grind (arith, nat_tests)
 
-
 three : (a b c z : ℕ) → (z < a) ⊎ (((a ≤ z) × (z < b)) ⊎ (((b ≤ z) × (z < c)) ⊎ (c ≤ z)))
 three a b c z = grind arith
 
@@ -25,7 +24,7 @@ three a b c z = grind arith
 point :
     (xs ys : List ℕ) (a z v : ℕ)
     → (if nat_le (a + length xs) z && nat_lt z (a + length xs + length ys) then get_or ys (z - (a + length xs)) 0
-      else (if nat_le a z && nat_lt z (a + length xs) then get_or xs (z - a) 0 else v))
+    else (if nat_le a z && nat_lt z (a + length xs) then get_or xs (z - a) 0 else v))
     ≡ (if nat_le a z && nat_lt z (a + length (xs ++ ys)) then get_or (xs ++ ys) (z - a) 0 else v)
 point xs ys a z v =
     let n : length (xs ++ ys) ≡ length xs + length ys = length-append xs ys in
@@ -65,17 +64,17 @@ pub twice :
 twice m a xs ys parts one byte soundly sound cover =
     let first : IsTrue (covers m.regions a (length xs)) = parts m.regions a _ a _ cover (omega arith) (omega arith) in
     let second : IsTrue (covers m.regions (a + length xs) (length ys)) =
-        parts m.regions a _ (a + length xs) _ cover (omega arith) (omega arith) in
+    parts m.regions a _ (a + length xs) _ cover (omega arith) (omega arith) in
     let n : length (xs ++ ys) ≡ length xs + length ys = length-append xs ys in
     let both : IsTrue (covers m.regions a (length (xs ++ ys))) = rw n cover in
     let left = soundly (written m a xs) (a + length xs) ys (soundly m a xs sound first) second in
     let right = soundly m a (xs ++ ys) sound both in
     let same : (z : ℕ) → value_at (with_bytes (with_bytes m.bytes a xs) (a + length xs) ys) z
-        ≡ value_at (with_bytes m.bytes a (xs ++ ys)) z =
-        λ z. byte (with_bytes m.bytes a xs) (a + length xs) ys z
-          ∙ (ap (λ v. if nat_le (a + length xs) z && nat_lt z (a + length xs + length ys)
-              then get_or ys (z - (a + length xs)) 0 else v) (byte m.bytes a xs z)
-          ∙ (point xs ys a z (value_at m.bytes z) ∙ sym (byte m.bytes a (xs ++ ys) z))) in
+    ≡ value_at (with_bytes m.bytes a (xs ++ ys)) z =
+    λ z. byte (with_bytes m.bytes a xs) (a + length xs) ys z
+    ∙ (ap (λ v. if nat_le (a + length xs) z && nat_lt z (a + length xs + length ys)
+    then get_or ys (z - (a + length xs)) 0 else v) (byte m.bytes a xs z)
+    ∙ (point xs ys a z (value_at m.bytes z) ∙ sym (byte m.bytes a (xs ++ ys) z))) in
     ap (λ (bs : ByteList). record m { bytes = bs }) (one m.regions _ _ left.bytes right.bytes same)
 
 -- a part that goes over the seam of two lists

@@ -9,8 +9,8 @@ ghost use Rattle.vring_turns.specs.ReceiveImage.{shares};
 ghost use Rattle.vhost_rx.specs.Chains.{found_behind, with_found};
 ghost use Rattle.vhost_rx.specs.Kept.{kept_shares};
 
-use guest_mem::Memory;
 use crate::lay::lay;
+use guest_mem::Memory;
 use std::alloc::{AllocError, Global};
 use std::marker::Model;
 use vhost_queue::Vq;
@@ -149,7 +149,8 @@ impl Chains {
         requires lies { LieIn (covers mem.old.regions) self.now }
         requires short { length front.now + length behind.now ≤ 4294967295 }
         ensures { mem.new ≡ record mem.old {
-            bytes = laid mem.old.bytes (segments_of self.now) (front.now ++ behind.now) } }
+          bytes = laid mem.old.bytes (segments_of self.now) (front.now ++ behind.now);
+        } }
     {
         lay(mem, self.room.list(), front, behind);
     }
@@ -158,8 +159,11 @@ impl Chains {
     pub fn finish(&mut self, vq: &mut Vq, len: u32)
         requires gathered { vq.old.queue.positions.gathered ≡ length self.old }
         requires room { length self.old ≤ room_of vq.old }
-        ensures queue { vq.new ≡ record vq.old { queue = record vq.old.queue {
-            positions = with_all_done (shares self.old len) vq.old.queue.positions } } }
+        ensures queue { vq.new ≡ record vq.old {
+          queue = record vq.old.queue {
+            positions = with_all_done (shares self.old len) vq.old.queue.positions;
+          };
+        } }
         ensures chains { self.new ≡ [] }
     {
         finish_all(vq, &self.kept, len);
@@ -178,8 +182,11 @@ impl Chains {
 fn finish_all(vq: &mut Vq, kept: &[Chain], len: u32)
     requires gathered { vq.old.queue.positions.gathered ≡ length kept.now }
     requires room { length kept.now ≤ room_of vq.old }
-    ensures { vq.new ≡ record vq.old { queue = record vq.old.queue {
-        positions = with_all_done (kept_shares kept.now len) vq.old.queue.positions } } }
+    ensures { vq.new ≡ record vq.old {
+      queue = record vq.old.queue {
+        positions = with_all_done (kept_shares kept.now len) vq.old.queue.positions;
+      };
+    } }
 {
     let mut left = u64::from(len);
     for chain in kept {

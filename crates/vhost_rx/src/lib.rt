@@ -16,3 +16,6 @@ mod ways;
 mod worker;
 
 pub use crate::worker::{RxStep, RxWorker};
+
+#[cfg(test)]
+mod tests;

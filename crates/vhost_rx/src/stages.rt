@@ -58,7 +58,8 @@ pub fn stopped_at(stage: RxStage) -> Option<RingFault>
         RxStage::NoticesOff {
             after: After::PutBack(end),
         } => fault_of(end),
-        RxStage::PutBack { end } | RxStage::Publish { end: Some(end) } | RxStage::Ended(end) => fault_of(end),
+        RxStage::PutBack { end } | RxStage::Publish { end: Some(end) } | RxStage::Ended(end) =>
+            fault_of(end),
         _ => None,
     }
 }

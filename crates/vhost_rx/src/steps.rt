@@ -358,12 +358,7 @@ impl RxWorker {
     }
 
     // The event that comes next, or why the turn ended without one.
-    fn event<Q: FrameQueue>(
-        &mut self,
-        vq: &mut Vq,
-        q: &mut Q,
-        mem: &mut Memory,
-    ) -> Result<Act, End>
+    fn event<Q: FrameQueue>(&mut self, vq: &mut Vq, q: &mut Q, mem: &mut Memory) -> Result<Act, End>
         requires fits { Fits self.old vq.old }
         requires good { IsGood vq.old.queue mem.old }
         requires lies { LieIn (covers mem.old.regions) self.old.turn.chains }

@@ -9,11 +9,13 @@ ghost use Rattle.vring_turns.specs.TransmitBytes.{is_header_size};
 ghost use Rattle.vring_turns.specs.RxTurn.{rx_begun, rx_report, quota};
 
 use crate::chains::Chains;
-use crate::stages::{copies_after, copies_at, counts_at, few_done_at, gathers_at, holds_at, publishes_at, stopped_at};
+use crate::stages::{
+    copies_after, copies_at, counts_at, few_done_at, gathers_at, holds_at, publishes_at, stopped_at,
+};
 use guest_mem::Memory;
 use std::alloc::{AllocError, Global};
 use std::marker::Model;
-use tap_frame::Frame;
+use tap_frame::{Frame, Name};
 use vhost_queue::Vq;
 use vring_split::Layout;
 use vring_turns::{End, RxStage, Step, TurnEnd};
@@ -50,7 +52,7 @@ impl Model for RxWorker {
 }
 
 impl RxWorker {
-    ghost use Rattle.vhost_rx.specs.Worker.{Fits, IsSameQueue, HasChains, HasPlaces, is_over, need_in};
+    ghost use Rattle.vhost_rx.specs.Worker.{Fits, IsSameQueue, HasChains, HasPlaces, is_over, name_in_hand, need_in};
 
     /// A worker for one turn on a ring's queue, whose frames may go into several chains where `mergeable`
     /// says so, and have a header of `hdr` bytes, 10 or 12, in front of them: 12 where they may. It reserves
@@ -66,7 +68,10 @@ impl RxWorker {
         requires idle { IsIdle vq.old.queue.positions }
         requires running { vq.old.queue.stopped ≡ None }
         ensures begun { IfOk result (λ w. w ≡ record {
-            turn = rx_begun mergeable hdr; layout = vq.old.queue.layout; next = vq.old.queue.positions.next }) }
+          turn = rx_begun mergeable hdr;
+          layout = vq.old.queue.layout;
+          next = vq.old.queue.positions.next;
+        }) }
         ensures reserved { OnOk result (vq.new ≡ record vq.old { reserved = turn_places }) }
         ensures fits { IfOk result (λ w. Fits w vq.new) }
         ensures unchanged { OnErr result (vq.new ≡ vq.old) }
@@ -94,6 +99,16 @@ impl RxWorker {
         ensures { option_copied result ≡ self.now.turn.held }
     {
         self.held.as_ref()
+    }
+
+    /// The name of the frame in hand.
+    pub fn in_hand(&self) -> Option<Name>
+        ensures { result ≡ name_in_hand self.now }
+    {
+        match &self.held {
+            Some(frame) => Some(frame.name()),
+            None => None,
+        }
     }
 
     /// Whether the ring's queue is the one of `begin`, changed since by this worker's steps alone, as far as

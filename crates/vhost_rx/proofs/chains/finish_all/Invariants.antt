@@ -9,8 +9,14 @@ invariant-loop-chain l = record {
   small : l.left ≤ l.initial.left;
   gathered : l.vq.queue.positions.gathered + l.chain-index ≡ length l.kept;
   room : length l.kept ≤ room_of l.vq + l.chain-index;
-  done : record l.vq { queue = record l.vq.queue {
-      positions = with_all_done (kept_shares (drop l.chain-index l.kept) l.left) l.vq.queue.positions } }
-    ≡ record l.initial.vq { queue = record l.initial.vq.queue {
-      positions = with_all_done (kept_shares l.kept l.initial.left) l.initial.vq.queue.positions } };
+  done : record l.vq {
+    queue = record l.vq.queue {
+      positions = with_all_done (kept_shares (drop l.chain-index l.kept) l.left) l.vq.queue.positions;
+    };
+  }
+      ≡ record l.initial.vq {
+        queue = record l.initial.vq.queue {
+          positions = with_all_done (kept_shares l.kept l.initial.left) l.initial.vq.queue.positions;
+        };
+      };
 }

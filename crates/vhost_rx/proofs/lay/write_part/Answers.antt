@@ -9,5 +9,5 @@ returns-else-at-len c =
     let front = c.args.front.now in
     let s = seam front c.args.behind.now c.args.at c.args.len (omega arith) (omega arith) in
     let t : take (length front - c.args.at) (drop c.args.at front) ≡ drop c.args.at front =
-        ap (λ n. take n (drop c.args.at front)) (sym (length-drop c.args.at front)) ∙ take-length (drop c.args.at front) in
+    ap (λ n. take n (drop c.args.at front)) (sym (length-drop c.args.at front)) ∙ take-length (drop c.args.at front) in
     rw s (rw t at c.write_both.ensures)

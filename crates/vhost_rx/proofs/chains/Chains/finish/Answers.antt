@@ -21,7 +21,7 @@ finish_all-requires-clause-room c =
 pub returns-clause-queue : goal.returns-clause-queue
 returns-clause-queue c =
     let e : kept_shares c.deref.result.now c.args.len ≡ shares c.args.self.now c.args.len =
-        ap (λ ks. kept_shares ks c.args.len) c.deref.ensures.value
-        ∙ (sym (shares-split_into c.self.inside.kept.items c.self.inside.room c.args.len c.self.invariant.split)
-        ∙ ap (λ cs. shares cs c.args.len) c.self.view_is) in
+    ap (λ ks. kept_shares ks c.args.len) c.deref.ensures.value
+    ∙ (sym (shares-split_into c.self.inside.kept.items c.self.inside.room c.args.len c.self.invariant.split)
+    ∙ ap (λ cs. shares cs c.args.len) c.self.view_is) in
     rw (← e) c.finish_all.ensures

@@ -37,7 +37,7 @@ behind_are :
     ≡ (found_behind c.args.self.now c.args.mem.now c.args.ring.now c.args.position).1
 behind_are c =
     new_part c.self.inside.room c.list.result.now _ (length c.list-before.result.now)
-        (ap length c.list-before.ensures.list) (c.list.ensures.list ∙ room_is c)
+    (ap length c.list-before.ensures.list) (c.list.ensures.list ∙ room_is c)
 
 -- the new chain has them
 chain_has :
@@ -68,7 +68,7 @@ chains_are c =
     let F : ℕ → List Gathered → List Gathered = λ h cs. cs ++ record { head = h; segments = more } ∷ [] in
     rw (c.push_reserved.ensures.items, room_is c)
     (split_into-more c.self.inside.kept.items c.self.inside.room more c.chain_behind-chain.result
-        c.self.invariant.split (chain_has c)
+    c.self.invariant.split (chain_has c)
     ∙ (ap (λ h. F h (split_into c.self.inside.kept.items c.self.inside.room)) c.chain_behind-chain.ensures.head
     ∙ ap (λ cs. F c.in-Chain.head cs) c.self.view_is))
 
@@ -83,10 +83,10 @@ returns-in-Chain-clause-lies c =
     let answer = c.in-Chain.ensures.answer in
     let usable = c.chains_are_usable.ensures _ _ _ _ answer.0 answer.1.chain in
     let same : answer.0 ≡ more =
-        sym (new_part c.self.inside.room c.fetch-found.new.room answer.0 (length c.self.inside.room) refl answer.3)
-        ∙ new_part c.self.inside.room c.fetch-found.new.room more (length c.self.inside.room) refl (room_is c) in
+    sym (new_part c.self.inside.room c.fetch-found.new.room answer.0 (length c.self.inside.room) refl answer.3)
+    ∙ new_part c.self.inside.room c.fetch-found.new.room more (length c.self.inside.room) refl (room_is c) in
     subst Q (sym (chains_are c))
-        (LieIn-more (covers c.args.mem.now.regions) c.args.self.now _ c.requires.lies (subst P same usable.lies))
+    (LieIn-more (covers c.args.mem.now.regions) c.args.self.now _ c.requires.lies (subst P same usable.lies))
 
 pub invariant_of-self : goal.invariant_of-self
 invariant_of-self c =
@@ -97,10 +97,10 @@ invariant_of-self c =
     let n = length-append items (chain ∷ []) in
     let m = length-append room more in
     let had : room_in (split_into c.push_reserved.new.self.items c.fetch-found.new.room)
-        ≡ c.self.inside.had + chain.bytes =
-        ap room_in (chains_are c) ∙ (room_in-more c.args.self.now _
-        ∙ (ap (λ k. k + bytes_in more) (ap room_in (sym c.self.view_is) ∙ sym c.self.invariant.had)
-        ∙ ap (λ k. c.self.inside.had + k) (sym (chain_counts c)))) in
+    ≡ c.self.inside.had + chain.bytes =
+    ap room_in (chains_are c) ∙ (room_in-more c.args.self.now _
+    ∙ (ap (λ k. k + bytes_in more) (ap room_in (sym c.self.view_is) ∙ sym c.self.invariant.had)
+    ∙ ap (λ k. c.self.inside.had + k) (sym (chain_counts c)))) in
     record {
       split = rw (c.push_reserved.ensures.items, room_is c)
           (AreSplit-more items room more chain c.self.invariant.split (chain_has c) (chain_counts c));
@@ -116,12 +116,12 @@ invariant_of-self c =
 pub returns-in_default : goal.returns-in_default
 returns-in_default c =
     let e : segments_of c.args.self.now ≡ c.self.inside.room =
-        ap segments_of (sym c.self.view_is)
-        ∙ segments_of-split_into c.self.inside.kept.items c.self.inside.room c.self.invariant.split in
+    ap segments_of (sym c.self.view_is)
+    ∙ segments_of-split_into c.self.inside.kept.items c.self.inside.room c.self.invariant.split in
     let stays : c.fetch-found.new.room ≡ c.self.inside.room =
-        room_stays _ _ _ _ _ _ c.fetch-found.result c.in_default.not-Chain c.fetch-found.ensures.answer in
+    room_stays _ _ _ _ _ _ c.fetch-found.result c.in_default.not-Chain c.fetch-found.ensures.answer in
     let same : split_into c.self.inside.kept.items c.fetch-found.new.room ≡ c.args.self.now =
-        ap (λ ss. split_into c.self.inside.kept.items ss) stays ∙ c.self.view_is in
+    ap (λ ss. split_into c.self.inside.kept.items ss) stays ∙ c.self.view_is in
     let Q : List Gathered → Type 0 = λ cs. LieIn (covers c.args.mem.now.regions) cs in
     record {
       found = rw e c.fetch-found.ensures.as_function.0;

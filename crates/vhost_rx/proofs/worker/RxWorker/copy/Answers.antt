@@ -9,5 +9,5 @@ returns-clause-steady c =
     let P : Worker → Type 0 = λ w. IsSteady w c.args.vq.now in
     rw (c.finish.ensures.chains, c.finish.ensures.queue, c.len-count.ensures)
     (copied_steady (worker_of c.self.inside) c.args.vq.now c.need-need.result
-        (subst P (sym c.self.view_is) c.requires.steady)
-        (ap (λ w. w.turn.stage) c.self.view_is ∙ c.requires.stage))
+    (subst P (sym c.self.view_is) c.requires.steady)
+    (ap (λ w. w.turn.stage) c.self.view_is ∙ c.requires.stage))

@@ -52,7 +52,7 @@ returns-in-Out-clause-event g c =
       moves = subst P (sym e) c.out.ensures.moved;
       step = out_step s after c.out.result c.need-bytes.result e c.need-bytes.ensures.need held
           (at_memory t.held (λ frame m. rx_outs c.need-bytes.result frame (state_of c.args.self.now c.args.vq.now.queue m)
-            ≡ (state_of c.out.new.self c.args.vq.now.queue m, c.out.result)) c.args.mem.now c.out.ensures.step);
+          ≡ (state_of c.out.new.self c.args.vq.now.queue m, c.out.result)) c.args.mem.now c.out.ensures.step);
     }
 
 pub returns-in-Discard-clause-event : goal.returns-in-Discard-clause-event
@@ -69,11 +69,11 @@ returns-in-Discard-clause-event g c =
       hand = Off;
       moves = subst P (sym e)
           (discarded t.held t.header c.in-Discard.had t.mergeable c.overrun-fate.result old new c.overrun-fate.ensures.fate
-            c.out-in-Discard.ensures.moved);
+          c.out-in-Discard.ensures.moved);
       step = discard_step s after c.out-in-Discard.result c.in-Discard.had e held
           (at_memory t.held (λ frame m. rx_outs 0 frame (state_of c.args.self.now c.args.vq.now.queue m)
-            ≡ (state_of c.out-in-Discard.new.self c.args.vq.now.queue m, c.out-in-Discard.result))
-            c.args.mem.now c.out-in-Discard.ensures.step);
+          ≡ (state_of c.out-in-Discard.new.self c.args.vq.now.queue m, c.out-in-Discard.result))
+          c.args.mem.now c.out-in-Discard.ensures.step);
     }
 
 pub returns-in-PutBack-clause-event : goal.returns-in-PutBack-clause-event
