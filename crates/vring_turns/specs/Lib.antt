@@ -3,6 +3,7 @@ pub mod ReceiveImage
 pub mod TransmitBytes
 pub mod Turn
 pub mod TxTurn
+pub mod TxRun
 pub mod RxTurn
 pub mod Hands
 pub mod Example

@@ -15,6 +15,6 @@ mod stage;
 mod step;
 
 pub use crate::end::{End, TurnEnd};
-pub use crate::laws::{receive_examples, transmit_examples};
+pub use crate::laws::{receive_examples, transmit_examples, transmit_turns};
 pub use crate::stage::{After, RxStage, TxStage};
 pub use crate::step::Step;
