@@ -12,3 +12,6 @@ mod steps;
 mod worker;
 
 pub use crate::worker::{TxStep, TxWorker};
+
+#[cfg(test)]
+mod tests;

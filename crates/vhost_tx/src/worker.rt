@@ -1,12 +1,16 @@
 //! The worker.
 ghost use Rattle.std.specs.Prelude.{◌≡◌, ◌↔◌, IsTrue, IfOk, OnOk, OnErr, None};
 ghost use Rattle.std.specs.Option.{option_copied};
+ghost use Rattle.guest_mem.specs.Memory.{covers};
+ghost use Rattle.vring_turns.specs.Ring.{LieIn};
 ghost use Rattle.vhost_queue.specs.Positions.{IsIdle};
 ghost use Rattle.vhost_queue.specs.Queue.{turn_places};
 ghost use Rattle.vring_turns.specs.TransmitBytes.{is_header_size};
 ghost use Rattle.vring_turns.specs.TxTurn.{tx_begun, tx_report};
 
+use crate::gather::lie_in;
 use crate::stages::{chains_at, goes_on_at, holds_at, publishes_at, stopped_at};
+use guest_mem::Memory;
 use std::alloc::{AllocError, Global};
 use std::marker::Model;
 use tap_frame::{Frame, Name};
@@ -113,6 +117,14 @@ impl TxWorker {
         ensures { IsTrue result ↔ Fits self.now vq.now }
     {
         !self.is_over() && self.has_queue(vq) && self.has_numbers(vq)
+    }
+
+    /// Whether the segments of the chain that was fetched lie in a memory. They do in the memory in which it
+    /// was fetched.
+    pub fn lies_in(&self, mem: &Memory) -> bool
+        ensures { IsTrue result ↔ LieIn (covers mem.now.regions) self.now.turn.chains }
+    {
+        self.head.is_none() || lie_in(mem, self.room.list())
     }
 
     // Whether the turn is over.

@@ -3,7 +3,9 @@ pub mod ReceiveImage
 pub mod TransmitBytes
 pub mod Turn
 pub mod TxTurn
+pub mod TxRun
 pub mod RxTurn
+pub mod Hands
 pub mod Example
 pub mod TxExamples
 pub mod RxExamples

@@ -83,7 +83,7 @@ OneChainOverruns =
     × (rx_reported overrun_turn.1 ≡ (1, 0, Some Idle))
     × (overrun_turn.1.queue ≡ queue_on (ring_of true 4 64 80))
     × ((rx_steps 3 (frame_with 0 46 ∷ []) (rx_start false (receivable 1 ((4096, 40, 2, 0) ∷ [])))).1.turn.stage
-    ≡ stage.Out (Discarded (Overrun 72 1 40)))
+    ≡ stage.Discard 40)
 
 -- a table of 24 bytes stops the ring, and the frame is put back
 abbrev pub stopped_turn : List Act × RxState

@@ -75,21 +75,17 @@ rx_after_packet t q =
     if is_enough t.packets t.bytes t.handled then rx_closing Again q
     else (if nat_le publishes_at (done_in q) then stage.Publish None else stage.Hand)
 
--- the fate of a frame that needs more than its chains have
-abbrev pub overrun : Bool → ℕ → List Gathered → Fate
-overrun mergeable need chains = Discarded (Overrun need (quota mergeable) (room_in chains))
-
 -- these chains are gathered: they hold the frame, or they are as many as there may be, or one more is fetched
 abbrev pub gathers : Bool → ℕ → List Gathered → After
 gathers mergeable need chains =
     if nat_le need (room_in chains) then after.Copy
-    else (if nat_le (quota mergeable) (length chains) then after.Discard (overrun mergeable need chains)
+    else (if nat_le (quota mergeable) (length chains) then after.Discard (room_in chains)
     else after.Fetch)
 
 -- what was found, where these chains are gathered then; a fetch that finds nothing has no such way
 abbrev pub goes_on : Bool → ℕ → List Gathered → Fetched → Option After
 goes_on mergeable need chains (fetched.Chain head) = Some (gathers mergeable need chains)
-goes_on mergeable need chains fetched.Crowded = Some (after.Discard (overrun mergeable need chains))
+goes_on mergeable need chains fetched.Crowded = Some (after.Discard (room_in chains))
 goes_on mergeable need chains (fetched.Bad fault) = Some (after.PutBack (Stopped fault))
 goes_on mergeable need chains fetched.Nothing = None
 
@@ -97,14 +93,14 @@ goes_on mergeable need chains fetched.Nothing = None
 abbrev pub stage_of : After → RxStage
 stage_of after.Fetch = stage.Fetch
 stage_of after.Copy = stage.Copy
-stage_of (after.Discard fate) = stage.Out fate
+stage_of (after.Discard had) = stage.Discard had
 stage_of (after.PutBack end) = stage.PutBack end
 
 -- whether a way gives up the chains that are gathered
 abbrev pub gives_up : After → Bool
 gives_up after.Fetch = false
 gives_up after.Copy = false
-gives_up (after.Discard fate) = true
+gives_up (after.Discard had) = true
 gives_up (after.PutBack end) = true
 
 -- a first fetch is behind it: it goes its way, or notices are turned on
@@ -161,7 +157,7 @@ rx_copies frame s =
     elim (copies_in s.turn.header frame (rx_ring s) s.memory) [
       | None ↦ None
       | Some made ↦
-          let next = rx_made made (stage.Out Guest) s in
+          let next = rx_made made stage.Out s in
           Some (record next.0 { turn = record next.0.turn { handled = s.turn.handled + length s.turn.chains } }, next.1)
     ]
 
@@ -172,17 +168,14 @@ rx_publishes end s =
       | Some made ↦ Some (rx_made made (elim end [ None ↦ stage.Hand | Some e ↦ stage.Ended e ]) s)
     ]
 
--- the packet of a frame that is out: it counts with its bytes where a guest received it
-abbrev pub bytes_handled : ℕ → FrameValue → Fate → ℕ
-bytes_handled size frame fate = elim fate [ Guest ↦ need_of size frame | _ ↦ 0 ]
+-- the fate of a frame that needs more bytes than its chains had
+abbrev pub overrun : Bool → ℕ → ℕ → Fate
+overrun mergeable need had = Discarded (Overrun need (quota mergeable) had)
 
-abbrev pub rx_outs : FrameValue → Fate → RxState → RxState × Act
-rx_outs frame fate s =
-    let t = record s.turn {
-      packets = s.turn.packets + 1;
-      bytes = s.turn.bytes + bytes_handled s.turn.header frame fate;
-      held = None;
-    } in
+-- a frame is out, and is a packet of so many bytes
+abbrev pub rx_outs : ℕ → FrameValue → RxState → RxState × Act
+rx_outs bytes frame s =
+    let t = record s.turn { packets = s.turn.packets + 1; bytes = s.turn.bytes + bytes; held = None } in
     (record s { turn = rx_at (rx_after_packet t s.queue) t }, act.Out frame.name)
 
 abbrev pub rx_puts_back : End → RxState → RxState × Act
@@ -202,7 +195,8 @@ abbrev pub rx_with : RxStage → FrameValue → RxState → Option (RxState × A
 rx_with stage.Fetch frame s = Some (rx_fetches false (need_of s.turn.header frame) s)
 rx_with stage.FetchAgain frame s = Some (rx_fetches true (need_of s.turn.header frame) s)
 rx_with stage.Copy frame s = rx_copies frame s
-rx_with (stage.Out fate) frame s = Some (rx_outs frame fate s)
+rx_with stage.Out frame s = Some (rx_outs (need_of s.turn.header frame) frame s)
+rx_with (stage.Discard had) frame s = Some (rx_outs 0 frame s)
 rx_with (stage.PutBack end) frame s = Some (rx_puts_back end s)
 rx_with other frame s = None
 

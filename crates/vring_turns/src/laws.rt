@@ -1,6 +1,14 @@
 //! Worked rings, as contracts of functions that do nothing.
 ghost use Rattle.vring_turns.specs.TxExamples.{OneIsSent, NoneIsSent, HaltPublishes, ShortIsRefused, ManyTakeTwoTurns};
+ghost use Rattle.vring_turns.specs.TxRun.{TransmitTurnsDo};
 ghost use Rattle.vring_turns.specs.RxExamples.{TwoChainsTakeIt, OneChainIsShort, OneChainOverruns, BadTableStops, NoChainIsShort};
+
+/// What a whole transmit turn did, whatever others write into the memory between its steps: each chain
+/// whose bytes were read is a packet of its bytes, and is published or done with length 0, in the order in
+/// which they were read, behind all that was published or done before; and nothing else is.
+pub fn transmit_turns()
+    ensures { TransmitTurnsDo }
+{}
 
 /// Receive turns on worked rings.
 pub fn receive_examples()

@@ -18,6 +18,6 @@ mod step;
 
 pub use crate::cases::{gathering_examples, publishing_examples, transmit_cases};
 pub use crate::end::{End, TurnEnd};
-pub use crate::laws::{receive_examples, transmit_examples};
+pub use crate::laws::{receive_examples, transmit_examples, transmit_turns};
 pub use crate::stage::{After, RxStage, TxStage};
 pub use crate::step::Step;

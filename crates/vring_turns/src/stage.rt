@@ -15,13 +15,19 @@ pub enum TxStage {
     /// One more fetch.
     FetchAgain,
     /// It found a chain, or this fault: notices are turned off again.
-    NoticesOff { fault: Option<RingFault> },
+    NoticesOff {
+        /// The fault, if it was one.
+        fault: Option<RingFault>,
+    },
     /// The bytes of the chain that was fetched are read.
     Copy,
     /// They are a frame, which is given to the host.
     Give,
     /// What is done is published, and then the turn goes on or ends.
-    Publish { end: Option<End> },
+    Publish {
+        /// Why it ends, if it does.
+        end: Option<End>,
+    },
     /// It is over.
     Ended(End),
 }
@@ -33,8 +39,11 @@ pub enum After {
     Fetch,
     /// The frame is copied into the chains.
     Copy,
-    /// The frame leaves the line without a copy.
-    Discard(Fate),
+    /// The frame is discarded, since the chains hold so many bytes only.
+    Discard {
+        /// How many bytes they hold.
+        had: u64,
+    },
     /// The frame is put back, and the turn ends.
     PutBack(End),
 }
@@ -53,15 +62,29 @@ pub enum RxStage {
     /// One more fetch.
     FetchAgain,
     /// It found something: notices are turned off again, and the turn goes on by it.
-    NoticesOff { after: After },
+    NoticesOff {
+        /// How it goes on.
+        after: After,
+    },
     /// The frame in hand is copied into the chains that were fetched.
     Copy,
-    /// The frame in hand leaves the line with this fate.
-    Out { fate: Fate },
+    /// The frame in hand leaves the line: the guest received it.
+    Out,
+    /// The frame in hand leaves the line: the chains hold so many bytes only.
+    Discard {
+        /// How many bytes they hold.
+        had: u64,
+    },
     /// The frame in hand is put back, and the turn ends.
-    PutBack { end: End },
+    PutBack {
+        /// Why it ends.
+        end: End,
+    },
     /// What is done is published, and then the turn goes on or ends.
-    Publish { end: Option<End> },
+    Publish {
+        /// Why it ends, if it does.
+        end: Option<End>,
+    },
     /// It is over.
     Ended(End),
 }

@@ -1,0 +1,6 @@
+mod Splits
+mod Writes
+mod Takes
+mod Fetched
+mod Copied
+mod Events

@@ -1,0 +1,4 @@
+pub mod Kept
+pub mod Chains
+pub mod Worker
+pub mod View

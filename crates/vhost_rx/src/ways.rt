@@ -1,0 +1,85 @@
+//! How a receive turn goes on after a fetch.
+ghost use Rattle.std.specs.Prelude.{◌≡◌, List};
+ghost use Rattle.vring_turns.specs.Ring.{Gathered, room_in, told_of};
+ghost use Rattle.vring_turns.specs.RxTurn.{rx_closing, stage_of, gives_up, rx_after_fetch, rx_after_second, rx_rewinds};
+
+use tap_ledger::Act;
+use vhost_queue::Vq;
+use vring_turns::{After, End, RxStage};
+use vring_walk::Fetched;
+
+/// What a fetch at a position tells.
+pub fn told_of(position: u16, found: Fetched) -> Act
+    ensures { result ≡ told_of position found }
+{
+    match found {
+        Fetched::Chain { head } => Act::Fetch { position, head },
+        Fetched::Nothing => Act::Nothing,
+        Fetched::Crowded => Act::Crowded,
+        Fetched::Bad(fault) => Act::Halt {
+            fault: fault.number(),
+        },
+    }
+}
+
+/// The turn ends: after a publication, where anything is done.
+pub fn closing(vq: &Vq, end: End) -> RxStage
+    ensures { result ≡ rx_closing end vq.now.queue }
+{
+    if vq.unpublished() == 0 {
+        RxStage::Ended(end)
+    } else {
+        RxStage::Publish { end: Some(end) }
+    }
+}
+
+/// The stage of a way.
+pub fn stage_of(way: After) -> RxStage
+    ensures { result ≡ stage_of way }
+{
+    match way {
+        After::Fetch => RxStage::Fetch,
+        After::Copy => RxStage::Copy,
+        After::Discard { had } => RxStage::Discard { had },
+        After::PutBack(end) => RxStage::PutBack { end },
+    }
+}
+
+// Whether a way gives up the chains that are gathered.
+fn gives_up(way: After) -> bool
+    ensures { result ≡ gives_up way }
+{
+    matches!(way, After::Discard { .. } | After::PutBack(_))
+}
+
+/// Whether the chains are rewound after the first or the second fetch.
+pub fn rewinds(second: bool, way: Option<After>) -> bool
+    ensures { result ≡ rx_rewinds second way }
+{
+    match way {
+        Some(way) => gives_up(way),
+        None => second,
+    }
+}
+
+/// Where the turn stands after the first fetch.
+pub fn after_fetch(way: Option<After>) -> RxStage
+    ensures { result ≡ rx_after_fetch way }
+{
+    match way {
+        Some(way) => stage_of(way),
+        None => RxStage::NoticesOn,
+    }
+}
+
+/// Where it stands after the second fetch, for a frame that needs so many bytes and chains that have so many.
+pub fn after_second(need: u32, had: u64, way: Option<After>) -> RxStage
+    ensures { (chains : List Gathered) → room_in chains ≡ had → result ≡ rx_after_second need chains way }
+{
+    match way {
+        Some(after) => RxStage::NoticesOff { after },
+        None => RxStage::PutBack {
+            end: End::Short { need, had },
+        },
+    }
+}
