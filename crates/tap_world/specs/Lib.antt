@@ -1,0 +1,15 @@
+pub mod Then
+pub mod ByNumber
+pub mod Frames
+pub mod Setup
+pub mod Line
+pub mod LineSteps
+pub mod World
+pub mod Effect
+pub mod Causes
+pub mod StepTable
+pub mod StepRing
+pub mod Scripts
+pub mod Step
+pub mod Runs
+pub mod Project
