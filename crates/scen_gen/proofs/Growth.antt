@@ -1,6 +1,6 @@
 -- One more send.
 use Rattle.std.proofs.Common.{◌≡◌, ℕ, suc, ◌+◌, List, [], ◌∷◌, ◌++◌, refl, ap, arith}
-use Rattle.scen_text.specs.declared.command.Command.{Command}
+use Rattle.scen_words.specs.declared.command.Command.{Command}
 use Rattle.scen_text.specs.declared.scenario.Line.{Line}
 use Rattle.scen_gen.specs.Generated.{lines, lines_at, reads, reads_at, send_of, sends}
 

@@ -2,10 +2,10 @@
 use Rattle.std.specs.Prelude.{ℕ, zero, suc, ◌+◌, ◌/◌, ◌%◌, ◌==◌, if◌then◌else◌, Bool, List, [], ◌∷◌, ◌++◌, codes, replicate, Option, None}
 use Rattle.std.specs.Int.{w16, w32, to_be_bytes}
 use Rattle.tap_frame.specs.declared.header.Hdr.{Hdr}
-use Rattle.scen_text.specs.declared.command.Command.{Command}
-use Rattle.scen_text.specs.declared.command.Command.TheVariants.{SetIff, Send, Read}
-use Rattle.scen_text.specs.declared.scenario.Declaration.{Declaration}
-use Rattle.scen_text.specs.declared.scenario.Declaration.TheVariants.{File}
+use Rattle.scen_words.specs.declared.command.Command.{Command}
+use Rattle.scen_words.specs.declared.command.Command.TheVariants.{SetIff, Send, Read}
+use Rattle.scen_words.specs.declared.declaration.Declaration.{Declaration}
+use Rattle.scen_words.specs.declared.declaration.Declaration.TheVariants.{File}
 use Rattle.scen_text.specs.declared.scenario.Line.{Line}
 use Rattle.scen_text.specs.declared.scenario.Phase.{Phase}
 use Rattle.scen_text.specs.declared.scenario.Scenario.{Scenario}

@@ -5,5 +5,7 @@
 #![tactic(auto)]
 
 mod generating;
+#[cfg(test)]
+mod tests;
 
 pub use generating::generate;

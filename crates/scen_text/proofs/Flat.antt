@@ -4,22 +4,18 @@ use Rattle.std.proofs.lemmas.Bool.{eqb-true}
 use Rattle.text_fields.specs.declared.value.Value.{Value}
 use Rattle.text_fields.specs.declared.value.Value.TheVariants as value
 use Rattle.text_fields.specs.Forms.{FitForm}
-use Rattle.scen_text.specs.declared.scenario.Declaration.{Declaration}
-use Rattle.scen_text.specs.declared.sentence.Sentence.{Sentence}
-use Rattle.scen_text.specs.declared.sentence.Sentence.TheVariants.{Skipped, Declares, Orders, Opens, Ends}
-use Rattle.scen_text.specs.declared.word.CommandWord.{CommandWord}
-use Rattle.scen_text.specs.declared.word.DeclarationWord.{DeclarationWord}
-use Rattle.scen_text.specs.declared.word.DeclarationWord.TheVariants as declaration
+use Rattle.scen_words.specs.declared.declaration.Declaration.{Declaration}
+use Rattle.scen_words.specs.declared.sentence.Sentence.{Sentence}
+use Rattle.scen_words.specs.declared.sentence.Sentence.TheVariants.{Skipped, Declares, Orders, Opens, Ends}
+use Rattle.scen_words.specs.declared.word.CommandWord.{CommandWord}
+use Rattle.scen_words.specs.declared.word.DeclarationWord.{DeclarationWord}
+use Rattle.scen_words.specs.declared.word.DeclarationWord.TheVariants as declaration
 use Rattle.scen_text.specs.Before.{command_after, command_count, declarations_of, names_of, number_for, turn_count, with_name}
-use Rattle.scen_text.specs.Commands.{command_of, commanded_name, declaration_of, declared_name, first_values, is_turn, u16_at, u64_at}
+use Rattle.scen_words.specs.Commands.{command_of, commanded_name, declaration_of, declared_name, first_values, is_turn, normal, u16_at, u64_at}
 use Rattle.scen_text.specs.Refusals.{is_unknown, lacks_guest, is_twice, passes_limit, passes_names, program_why, region_why}
-use Rattle.scen_text.specs.Words.{command_form}
+use Rattle.scen_words.specs.Words.{command_form}
 
--- the values of a declaration as they are written: a first place of 0 isn't
-abbrev pub normal : DeclarationWord → List Value → List Value
-normal declaration.File v = value.Number (u16_at v 0) ∷ value.Number (u16_at v 1) ∷ first_values (u64_at v 2)
-normal w v = v
-
+-- the declarations, with their values as they are written, and the commands, each without its actor
 abbrev pub flat : List Sentence → List Sentence
 flat [] = []
 flat (Skipped ∷ e) = flat e

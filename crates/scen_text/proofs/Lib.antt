@@ -1,6 +1,5 @@
 pub mod Accepted
 pub mod Flat
-pub mod Kept
 pub mod Lines
 pub mod Loops
 pub mod Made
@@ -11,7 +10,6 @@ pub mod PhaseRows
 pub mod Played
 pub mod PlayedPhases
 pub mod PrintedStands
-pub mod Rows
 pub mod Scripts
 pub mod Spaced
 pub mod Steps

@@ -1,17 +1,17 @@
 -- The lines of a text, one after another.
-use Rattle.std.proofs.Common.{◌≡◌, ℕ, suc, ◌+◌, ◌<◌, ◌≤◌, ◌^◌, Bool, true, false, not, List, [], ◌∷◌, length, Option, Some, None, Result, Ok, Err, refl, sym, ap, ◌∙◌, eqb, arith, Bor}
+use Rattle.std.proofs.Common.{◌≡◌, ℕ, suc, ◌+◌, ◌<◌, ◌≤◌, ◌^◌, Bool, true, false, not, List, [], ◌∷◌, length, Option, Some, None, Ok, Err, refl, sym, ap, ◌∙◌, eqb, arith, Bor}
 use Rattle.std.specs.Prelude.{is_some, MatchOption}
 use Rattle.std.specs.Option.{option_copied}
-use Rattle.std.specs.List.{slice_split, count_by}
+use Rattle.std.specs.List.{slice_split}
 use Rattle.std.proofs.lemmas.List.Splits.{length-slice_split}
 use Rattle.std.proofs.lemmas.List.Sums.{count_by-le-length}
 use Rattle.text_fields.specs.Lines.{but_empty_last, lines_of}
 use Rattle.scen_text.specs.declared.builder.Builder.{Builder}
-use Rattle.scen_text.specs.declared.fault.OrMemory.{OrMemory}
-use Rattle.scen_text.specs.declared.fault.OrMemory.TheVariants as error
+use Rattle.scen_words.specs.declared.fault.OrMemory.{OrMemory}
+use Rattle.scen_words.specs.declared.fault.OrMemory.TheVariants as error
 use Rattle.scen_text.specs.declared.fault.ScenFault.{ScenFault}
-use Rattle.scen_text.specs.declared.fault.Why.{Why}
-use Rattle.scen_text.specs.declared.sentence.Sentence.{Sentence}
+use Rattle.scen_words.specs.declared.fault.Why.{Why}
+use Rattle.scen_words.specs.declared.sentence.Sentence.{Sentence}
 use Rattle.scen_text.specs.Building.{Builds, HearsLine, Keeps, error_at}
 use Rattle.scen_text.specs.Refusals.{is_nil, said_after, said_from}
 

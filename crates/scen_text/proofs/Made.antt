@@ -9,11 +9,11 @@ use Rattle.std.proofs.Math.Seq.{get_or-append_seam}
 use Rattle.text_fields.specs.declared.value.Value.{Value}
 use Rattle.scen_text.specs.declared.scenario.Line.{Line}
 use Rattle.scen_text.specs.declared.scenario.Phase.{Phase}
-use Rattle.scen_text.specs.declared.sentence.Sentence.{Sentence}
-use Rattle.scen_text.specs.declared.sentence.Sentence.TheVariants.{Orders}
-use Rattle.scen_text.specs.declared.word.CommandWord.{CommandWord}
+use Rattle.scen_words.specs.declared.sentence.Sentence.{Sentence}
+use Rattle.scen_words.specs.declared.sentence.Sentence.TheVariants.{Orders}
+use Rattle.scen_words.specs.declared.word.CommandWord.{CommandWord}
 use Rattle.scen_text.specs.Before.{at_last, has_name, line_after, number_among, phase_of, with_line, with_name}
-use Rattle.scen_text.specs.Commands.{name_of}
+use Rattle.scen_words.specs.Commands.{name_of}
 use Rattle.scen_text.proofs.Flat.{Ordered}
 
 -- ---- names stay where they are

@@ -4,23 +4,23 @@ use Rattle.std.specs.Prelude.{unwrap_or}
 use Rattle.std.proofs.lemmas.Bool.{ltb-true}
 use Rattle.text_fields.specs.declared.value.Value.{Value}
 use Rattle.text_fields.specs.Forms.{FitForm}
-use Rattle.scen_text.specs.declared.fault.Why.{Why}
-use Rattle.scen_text.specs.declared.fault.Why.TheVariants as why
+use Rattle.scen_words.specs.declared.fault.Why.{Why}
+use Rattle.scen_words.specs.declared.fault.Why.TheVariants as why
 use Rattle.scen_text.specs.declared.place.Place.{Place}
 use Rattle.scen_text.specs.declared.place.Place.TheVariants.{Outside, Run, Block}
-use Rattle.scen_text.specs.declared.scenario.Declaration.{Declaration}
+use Rattle.scen_words.specs.declared.declaration.Declaration.{Declaration}
 use Rattle.scen_text.specs.declared.scenario.Line.{Line}
 use Rattle.scen_text.specs.declared.scenario.Phase.{Phase}
-use Rattle.scen_text.specs.declared.sentence.Sentence.{Sentence}
-use Rattle.scen_text.specs.declared.sentence.Sentence.TheVariants.{Skipped, Declares, Orders, Opens, Ends}
-use Rattle.scen_text.specs.declared.word.CommandWord.{CommandWord}
-use Rattle.scen_text.specs.declared.word.DeclarationWord.{DeclarationWord}
+use Rattle.scen_words.specs.declared.sentence.Sentence.{Sentence}
+use Rattle.scen_words.specs.declared.sentence.Sentence.TheVariants.{Skipped, Declares, Orders, Opens, Ends}
+use Rattle.scen_words.specs.declared.word.CommandWord.{CommandWord}
+use Rattle.scen_words.specs.declared.word.DeclarationWord.{DeclarationWord}
 use Rattle.scen_text.specs.Before.{add_line, before, command_after, command_count, declarations_of, is_started, line_after, names_of, number_for, phase_of, phases_of, place_of, turn_count}
-use Rattle.scen_text.specs.Commands.{command_of, commanded_name}
+use Rattle.scen_words.specs.Commands.{command_of, commanded_name, normal}
 use Rattle.scen_text.specs.Refusals.{cause, command_why, declaration_why, is_block, is_misplaced, is_unknown, passes_limit, when, ◌orelse◌}
-use Rattle.scen_text.specs.Words.{command_form}
+use Rattle.scen_words.specs.Words.{command_form}
 use Rattle.scen_text.proofs.Accepted.{Accepted}
-use Rattle.scen_text.proofs.Flat.{Ordered, flat, flat_count, flat_declarations, flat_names, flat_turns, normal}
+use Rattle.scen_text.proofs.Flat.{Ordered, flat, flat_count, flat_declarations, flat_names, flat_turns}
 use Rattle.scen_text.proofs.Made.{LastHas, MadeLine, PhasesFrom, last_kept, last_line, last_more, phase_more}
 
 abbrev pub decls : List Sentence → List Sentence

@@ -6,20 +6,20 @@ use Rattle.text_fields.specs.declared.value.Value.TheVariants as value
 use Rattle.text_fields.specs.declared.kind.Shape.TheVariants.{Number}
 use Rattle.text_fields.specs.Fields.{FitsShape}
 use Rattle.text_fields.specs.Forms.{FitForm}
-use Rattle.scen_text.specs.declared.fault.Why.{Why}
-use Rattle.scen_text.specs.declared.fault.Why.TheVariants as why
-use Rattle.scen_text.specs.declared.scenario.Declaration.{Declaration}
-use Rattle.scen_text.specs.declared.sentence.Sentence.{Sentence}
-use Rattle.scen_text.specs.declared.sentence.Sentence.TheVariants.{Skipped, Declares, Orders, Opens, Ends}
-use Rattle.scen_text.specs.declared.word.DeclarationWord.{DeclarationWord}
-use Rattle.scen_text.specs.declared.word.DeclarationWord.TheVariants as declaration
-use Rattle.scen_text.specs.declared.word.Word.TheVariants as word
+use Rattle.scen_words.specs.declared.fault.Why.{Why}
+use Rattle.scen_words.specs.declared.fault.Why.TheVariants as why
+use Rattle.scen_words.specs.declared.declaration.Declaration.{Declaration}
+use Rattle.scen_words.specs.declared.sentence.Sentence.{Sentence}
+use Rattle.scen_words.specs.declared.sentence.Sentence.TheVariants.{Skipped, Declares, Orders, Opens, Ends}
+use Rattle.scen_words.specs.declared.word.DeclarationWord.{DeclarationWord}
+use Rattle.scen_words.specs.declared.word.DeclarationWord.TheVariants as declaration
+use Rattle.scen_words.specs.declared.word.Word.TheVariants as word
 use Rattle.scen_text.specs.Before.{before, declarations_of, is_started, names_of, number_for}
-use Rattle.scen_text.specs.Commands.{declaration_of, declared_name}
+use Rattle.scen_words.specs.Commands.{declaration_of, declared_name, normal}
 use Rattle.scen_text.specs.Refusals.{cause, declaration_why, is_twice, lacks_guest, passes_names, program_why, region_why, when, ◌orelse◌}
-use Rattle.scen_text.specs.Words.{declaration_form, is_in_version}
+use Rattle.scen_words.specs.Words.{declaration_form, is_in_version}
 use Rattle.scen_text.proofs.Accepted.{Accepted}
-use Rattle.scen_text.proofs.Flat.{flat_declarations, flat_names, normal, normal_name, normal_same, normal_twice}
+use Rattle.scen_text.proofs.Flat.{flat_declarations, flat_names, normal_name, normal_same, normal_twice}
 use Rattle.scen_text.proofs.MadeAll.{decls, not_started, when_none}
 
 pub record MadeDecl (version : ℕ) (f : List Sentence) (d : Declaration) (w : DeclarationWord) (v : List Value) : Type 0 where

@@ -1,8 +1,8 @@
 -- The rows of a scenario's phases, one phase after another.
-use Rattle.std.proofs.Common.{◌≡◌, ℕ, ◌+◌, ◌<◌, Bool, true, false, List, [], ◌∷◌, ◌++◌, length, take, get_or, refl, sym, ap, ◌∙◌, append_assoc}
+use Rattle.std.proofs.Common.{◌≡◌, ℕ, ◌+◌, ◌<◌, Bool, false, List, [], ◌∷◌, ◌++◌, length, take, get_or, refl, sym, ap, ◌∙◌, append_assoc}
 use Rattle.std.proofs.lemmas.List.{append-nil, take_more}
 use Rattle.scen_text.specs.declared.scenario.Phase.{Phase}
-use Rattle.scen_text.specs.Field.{line, text}
+use Rattle.scen_words.specs.Field.{text}
 use Rattle.scen_text.specs.ScenarioText.{is_bare, phase_rows, phases_rows}
 use Rattle.scen_text.proofs.Loops.{text-append}
 

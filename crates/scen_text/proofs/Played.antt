@@ -9,24 +9,36 @@ use Rattle.text_fields.specs.declared.value.Value.{Value}
 use Rattle.text_fields.specs.Forms.{FitForm, fields_for}
 use Rattle.text_fields.specs.Lines.{is_text_line}
 use Rattle.scen_text.specs.declared.fault.ScenFault.{ScenFault}
-use Rattle.scen_text.specs.declared.fault.Why.{Why}
-use Rattle.scen_text.specs.declared.fault.Why.TheVariants as why
-use Rattle.scen_text.specs.declared.scenario.Declaration.{Declaration}
+use Rattle.scen_words.specs.declared.fault.Why.{Why}
+use Rattle.scen_words.specs.declared.fault.Why.TheVariants as why
+use Rattle.scen_words.specs.declared.declaration.Declaration.{Declaration}
 use Rattle.scen_text.specs.declared.scenario.Line.{Line}
 use Rattle.scen_text.specs.declared.scenario.Phase.{Phase}
-use Rattle.scen_text.specs.declared.sentence.Sentence.{Sentence}
-use Rattle.scen_text.specs.declared.sentence.Sentence.TheVariants.{Orders}
-use Rattle.scen_text.specs.declared.word.CommandWord.{CommandWord}
+use Rattle.scen_words.specs.declared.sentence.Sentence.{Sentence}
+use Rattle.scen_words.specs.declared.sentence.Sentence.TheVariants.{Orders}
+use Rattle.scen_words.specs.declared.word.CommandWord.{CommandWord}
 use Rattle.scen_text.specs.Before.{before, command_after, command_count, declarations_of, line_after, names_of, number_among, number_for, place_of, turn_count, with_name}
-use Rattle.scen_text.specs.Commands.{command_of, command_values, commanded_name, name_of}
+use Rattle.scen_words.specs.Commands.{command_of, command_values, commanded_name, name_of}
 use Rattle.scen_text.specs.Refusals.{cause, command_why, is_block, is_misplaced, is_nil, is_unknown, passes_limit, said_from}
-use Rattle.scen_text.specs.ScenarioText.{command_row}
-use Rattle.scen_text.specs.Sentences.{sentence_of}
-use Rattle.scen_text.specs.Words.{command_form, command_spelling}
+use Rattle.scen_words.specs.Laws.{ActorsAreReadAgain, CommandsAreReadAgain, DeclarationValuesAreKept, DeclarationWordsAreKept, DeclarationsAreReadAgain, EndingsAreReadAgain, OpeningsAreReadAgain, ValuesAreKept, WordsAreKept}
+use Rattle.scen_words.specs.Rows.{command_row}
+use Rattle.scen_words.specs.Sentences.{sentence_of}
+use Rattle.scen_words.specs.Words.{command_form, command_spelling}
 use Rattle.scen_text.proofs.Flat.{Ordered, flat, flat_count, flat_declarations, flat_names, flat_turns}
-use Rattle.scen_text.proofs.Kept.{values_kept, words_kept}
 use Rattle.scen_text.proofs.Made.{Grows, LinesFrom, PhasesFrom, grows_trans, named_at, with_grows}
 use Rattle.scen_text.proofs.MadeAll.{line_flat}
+
+-- what the crate below says of words and lines
+pub record Laws : Type 0 where
+  pub words : WordsAreKept
+  pub values : ValuesAreKept
+  pub declaration_words : DeclarationWordsAreKept
+  pub declaration_values : DeclarationValuesAreKept
+  pub commands : CommandsAreReadAgain
+  pub actors : ActorsAreReadAgain
+  pub declarations : DeclarationsAreReadAgain
+  pub openings : OpeningsAreReadAgain
+  pub endings : EndingsAreReadAgain
 
 abbrev Histories : Type 0
 Histories = Result (List Sentence) ScenFault
@@ -100,12 +112,12 @@ kept_name ns final (Some name) h = h
 abbrev pub row_of : CommandWord → List Value → List (List ℕ)
 row_of w v = command_spelling w ∷ fields_for (command_form w) v
 
-pub command_written : (final : List (List ℕ)) (f : List Sentence) (w : CommandWord) (v : List Value) → FitForm (command_form w) v → Grows (with_name (names_of f) (commanded_name w v)) final
+pub command_written : Laws → (final : List (List ℕ)) (f : List Sentence) (w : CommandWord) (v : List Value) → FitForm (command_form w) v → Grows (with_name (names_of f) (commanded_name w v)) final
     → command_row final (command_after f w v) ≡ row_of w v
-command_written final f w v fits grows =
+command_written laws final f w v fits grows =
     let n = number_for (names_of f) (commanded_name w v) in
-    let word = words_kept n w v in
-    let values = values_kept final n w v fits (kept_name (names_of f) final (commanded_name w v) (named_at (names_of f) final (commanded_name w v) grows)) in
+    let word = laws.words n w v in
+    let values = laws.values final n w v fits (kept_name (names_of f) final (commanded_name w v) (named_at (names_of f) final (commanded_name w v) grows)) in
     ap (λ (x : CommandWord). command_spelling x ∷ fields_for (command_form x) (command_values final (command_of n w v))) word ∙ ap (λ (x : List Value). row_of w x) values
 
 -- ---- what isn't refused behind a history that is flat the same

@@ -3,7 +3,7 @@ use Rattle.std.proofs.Common.{◌≡◌, ℕ, ◌<◌, ◌≤◌, Bool, true, fa
 use Rattle.std.specs.Prelude.{unwrap_or}
 use Rattle.std.specs.Fmt.{decimal}
 use Rattle.text_fields.specs.Forms.{FitForm}
-use Rattle.scen_text.specs.Words.{command_form}
+use Rattle.scen_words.specs.Words.{command_form}
 use Rattle.std.proofs.lemmas.Bool.{lt-ltb}
 use Rattle.std.proofs.lemmas.List.{append-nil}
 use Rattle.text_fields.specs.declared.value.Value.{Value}
@@ -12,18 +12,18 @@ use Rattle.scen_text.specs.declared.place.Place.{Place}
 use Rattle.scen_text.specs.declared.place.Place.TheVariants.{Outside, Run, Block}
 use Rattle.scen_text.specs.declared.scenario.Line.{Line}
 use Rattle.scen_text.specs.declared.scenario.Phase.{Phase}
-use Rattle.scen_text.specs.declared.sentence.Sentence.{Sentence}
-use Rattle.scen_text.specs.declared.sentence.Sentence.TheVariants.{Orders, Ends}
-use Rattle.scen_text.specs.declared.word.CommandWord.{CommandWord}
+use Rattle.scen_words.specs.declared.sentence.Sentence.{Sentence}
+use Rattle.scen_words.specs.declared.sentence.Sentence.TheVariants.{Orders, Ends}
+use Rattle.scen_words.specs.declared.word.CommandWord.{CommandWord}
 use Rattle.scen_text.specs.Before.{add_line, at_last, before, line_after, names_of, phase_of, phases_of, place_of, with_name}
-use Rattle.scen_text.specs.Commands.{commanded_name}
+use Rattle.scen_words.specs.Commands.{commanded_name}
 use Rattle.scen_text.specs.Refusals.{cause, is_block, is_misplaced}
-use Rattle.scen_text.specs.ScenarioText.{actor_row, bare_row, command_row, ending_row}
-use Rattle.scen_text.specs.Sentences.{sentence_of}
+use Rattle.scen_words.specs.Rows.{command_row}
+use Rattle.scen_text.specs.ScenarioText.{actor_row, bare_row, ending_row}
+use Rattle.scen_words.specs.Sentences.{sentence_of}
 use Rattle.scen_text.proofs.Flat.{flat}
 use Rattle.scen_text.proofs.Made.{Grows, LinesFrom, MadeLine, grows_trans}
-use Rattle.scen_text.proofs.Played.{Played, allowed, command_written, front_line, line_again, lines_grow, nothing, one_line, order_none, row_of, then_more}
-use Rattle.scen_text.proofs.Rows.{Laws, actors_again, commands_again, endings_again}
+use Rattle.scen_text.proofs.Played.{Laws, Played, allowed, command_written, front_line, line_again, lines_grow, nothing, one_line, order_none, row_of, then_more}
 
 -- what a history is, flat, where it stands, and its phases
 pub record Shows (h f : List Sentence) (pl : Place) (ps : List Phase) : Type 0 where
@@ -47,12 +47,12 @@ shows_line h f a pl pre n done l w v inside s is actor =
     ∙ ap (λ (ps : List Phase). at_last (line_after h a w v) ps) s.phases ∙ ap (λ (x : Line). at_last x (pre ++ phase_of n done ∷ [])) (line_again h f a l w v s.flat_is is actor)
     ∙ at_last_pre l pre n done
 
-pub row_is : (final : List (List ℕ)) (f g : List Sentence) (actors : ℕ) (l : Line) (w : CommandWord) (v : List Value) (ls : List Line) → MadeLine f actors l w v → LinesFrom (Orders None w v ∷ f) actors ls g
+pub row_is : Laws → (final : List (List ℕ)) (f g : List Sentence) (actors : ℕ) (l : Line) (w : CommandWord) (v : List Value) (ls : List Line) → MadeLine f actors l w v → LinesFrom (Orders None w v ∷ f) actors ls g
     → Grows (names_of g) final → command_row final l.command ≡ row_of w v
 unfolding names_of
-row_is final f g actors l w v ls m rest grows =
+row_is laws final f g actors l w v ls m rest grows =
     let grown : Grows (with_name (names_of f) (commanded_name w v)) final = grows_trans (with_name (names_of f) (commanded_name w v)) (names_of g) final (lines_grow (Orders None w v ∷ f) actors ls g rest) grows in
-    ap (λ (x : Line). command_row final x.command) m.is ∙ command_written final f w v m.ordered.fits grown
+    ap (λ (x : Line). command_row final x.command) m.is ∙ command_written laws final f w v m.ordered.fits grown
 
 and_false : (b : Bool) → (b && false) ≡ false
 and_false true = refl
@@ -64,7 +64,7 @@ pub free : (h : List Sentence) (last : Bool) → is_block (place_of h) ≡ false
 free h last e = rw (e, and_false last) refl
 
 pub bare_said : Laws → (version : ℕ) (final : List (List ℕ)) (l : Line) (w : CommandWord) (v : List Value) → command_row final l.command ≡ row_of w v → FitForm (command_form w) v → sentence_of version (line_of (bare_row final l)) ≡ Ok (Orders None w v)
-bare_said laws version final l w v row fits = ap (λ (r : List (List ℕ)). sentence_of version (line_of r)) row ∙ commands_again laws version w v fits
+bare_said laws version final l w v row fits = ap (λ (r : List (List ℕ)). sentence_of version (line_of r)) row ∙ laws.commands version w v fits
 
 pub none_is : (k : ℕ) → k < 1 → 0 ≡ k
 none_is k h = omega arith
@@ -100,7 +100,7 @@ run_play laws version final pre done (l ∷ ls) h f g s lines grows =
     let v = lines.1 in
     let m = lines.2 in
     let actor = none_is l.actor m.actor in
-    let row = row_is final f g 1 l w v ls m lines.3 grows in
+    let row = row_is laws final f g 1 l w v ls m lines.3 grows in
     let block : is_block (place_of h) ≡ false = ap is_block s.place in
     let first = one_line version h (line_of (bare_row final l)) (Orders None w v) (bare_said laws version final l w v row m.ordered.fits)
     (λ last. order_none h last None w v (allowed h f w v s.flat_is m.ordered) (free h last block)) in
@@ -155,7 +155,7 @@ pub block_play : Laws → (version : ℕ) (final : List (List ℕ)) (n : ℕ) �
     → LinesFrom f n ls g → Grows (names_of g) final → Reaches version h (inner final ls) g Outside (pre ++ phase_of n (done ++ ls) ∷ [])
 block_play laws version final n few pre done [] h f g s e grows = record {
   to = Ends ∷ h;
-  played = one_line version h (line_of ending_row) Ends (endings_again laws version) (λ last. end_none h n last s.place);
+  played = one_line version h (line_of ending_row) Ends (laws.endings version) (λ last. end_none h n last s.place);
   shows = end_shows h g (pre ++ phase_of n (done ++ []) ∷ []) (s.flat_is ∙ e) (s.phases ∙ ap (λ (x : List Line). pre ++ phase_of n x ∷ []) (sym (append-nil done)));
 }
 block_play laws version final n few pre done (l ∷ ls) h f g s lines grows =
@@ -163,9 +163,9 @@ block_play laws version final n few pre done (l ∷ ls) h f g s lines grows =
     let v = lines.1 in
     let m = lines.2 in
     let lt = m.actor in
-    let row = row_is final f g n l w v ls m lines.3 grows in
+    let row = row_is laws final f g n l w v ls m lines.3 grows in
     let said : sentence_of version (line_of (actor_row final l)) ≡ Ok (Orders (Some l.actor) w v) =
-    ap (λ (r : List (List ℕ)). sentence_of version (line_of ((64 ∷ decimal l.actor) ∷ r))) row ∙ actors_again laws version l.actor w v (omega arith) m.ordered.fits in
+    ap (λ (r : List (List ℕ)). sentence_of version (line_of ((64 ∷ decimal l.actor) ∷ r))) row ∙ laws.actors version l.actor w v (omega arith) m.ordered.fits in
     let none = order_none h false (Some l.actor) w v (allowed h f w v s.flat_is m.ordered) (in_place h n l.actor s.place lt) in
     let here : Shows (Orders (Some l.actor) w v ∷ h) (Orders None w v ∷ f) (Block n) (pre ++ phase_of n (done ++ l ∷ []) ∷ []) = record {
       flat_is = ap (λ (x : List Sentence). Orders None w v ∷ x) s.flat_is;

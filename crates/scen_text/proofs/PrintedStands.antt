@@ -1,52 +1,48 @@
 -- A printed scenario stands for itself.
-use Rattle.std.proofs.Common.{◌≡◌, ℕ, ◌≤◌, lit<, Bool, true, false, cond, not, eqb, ltb, List, [], ◌∷◌, ◌++◌, length, map, None, Result, Ok, Err, refl, sym, ap, subst, ◌∙◌, append_assoc, arith}
+use Rattle.std.proofs.Common.{◌≡◌, ℕ, ◌≤◌, Bool, true, false, cond, not, eqb, ltb, List, [], ◌∷◌, ◌++◌, length, map, None, Result, Ok, Err, refl, sym, ap, subst, ◌∙◌, append_assoc, arith}
 use Rattle.std.specs.Prelude.{codes}
 use Rattle.std.specs.Fmt.{decimal}
 use Rattle.std.specs.List.{list_all}
-use Rattle.std.specs.Option.{IfSome}
 use Rattle.std.specs.Str.{bytes_eq}
 use Rattle.std.proofs.lemmas.Bool.{and_from, and_parts, le-ltb, eqb-true}
 use Rattle.std.proofs.lemmas.Fmt.{decimal_digit}
 use Rattle.std.proofs.lemmas.List.{append-nil, map-append}
-use Rattle.text_fields.specs.declared.kind.Kind.TheVariants.{Plain}
-use Rattle.text_fields.specs.declared.kind.Shape.TheVariants.{Number, Name, Hex}
 use Rattle.text_fields.specs.declared.value.Value.{Value}
-use Rattle.text_fields.specs.Forms.{FitForm, fields_for}
-use Rattle.text_fields.specs.Laws.{FormsAreWrittenAgain, LinesAreCutAgain}
+use Rattle.text_fields.specs.Forms.{fields_for}
+use Rattle.text_fields.specs.Laws.{LinesAreCutAgain}
+use Rattle.scen_words.specs.Laws.{SentencesFit}
 use Rattle.text_fields.specs.Lines.{is_text_line, line_of, lines_of, text_of}
 use Rattle.scen_text.specs.declared.fault.ScenFault.{ScenFault}
-use Rattle.scen_text.specs.declared.fault.Why.{Why}
-use Rattle.scen_text.specs.declared.fault.Why.TheVariants as why
+use Rattle.scen_words.specs.declared.fault.Why.{Why}
+use Rattle.scen_words.specs.declared.fault.Why.TheVariants as why
 use Rattle.scen_text.specs.declared.place.Place.{Place}
 use Rattle.scen_text.specs.declared.place.Place.TheVariants.{Outside, Run, Block}
-use Rattle.scen_text.specs.declared.scenario.Declaration.{Declaration}
+use Rattle.scen_words.specs.declared.declaration.Declaration.{Declaration}
 use Rattle.scen_text.specs.declared.scenario.Line.{Line}
 use Rattle.scen_text.specs.declared.scenario.Phase.{Phase}
 use Rattle.scen_text.specs.declared.scenario.Scenario.{Scenario}
-use Rattle.scen_text.specs.declared.sentence.Sentence.{Sentence}
-use Rattle.scen_text.specs.declared.sentence.Sentence.TheVariants.{Skipped, Declares, Orders, Opens, Ends}
-use Rattle.scen_text.specs.declared.word.CommandWord.{CommandWord}
-use Rattle.scen_text.specs.declared.word.DeclarationWord.{DeclarationWord}
-use Rattle.scen_text.specs.declared.word.DeclarationWord.TheVariants as declaration
+use Rattle.scen_words.specs.declared.sentence.Sentence.{Sentence}
+use Rattle.scen_words.specs.declared.sentence.Sentence.TheVariants.{Skipped, Declares, Orders, Opens, Ends}
+use Rattle.scen_words.specs.declared.word.CommandWord.{CommandWord}
+use Rattle.scen_words.specs.declared.word.DeclarationWord.{DeclarationWord}
 use Rattle.scen_text.specs.Before.{add_line, before, declarations_of, line_after, names_of, number_for, phase_of, phases_of, place_of, with_name}
-use Rattle.scen_text.specs.Commands.{declaration_of, declaration_values, declaration_word, declared_name, name_of}
-use Rattle.scen_text.specs.Field.{line, text}
-use Rattle.scen_text.specs.Limits.{byte_limit}
+use Rattle.scen_words.specs.Commands.{declaration_of, declaration_values, declared_name, normal}
+use Rattle.scen_words.specs.Field.{line, text}
+use Rattle.scen_words.specs.declared.limits.TheConstants.{MAX_BYTES}
 use Rattle.scen_text.specs.Refusals.{◌>>=◌, Said, at_line, cause, is_block, said_from, said_in, said_of, said_of_lines}
 use Rattle.scen_text.specs.Scenario.{Stands, scenario_of}
 use Rattle.scen_text.specs.ScenarioLaws.{PrintedStands}
-use Rattle.scen_text.specs.ScenarioText.{bare_row, block_rows, declaration_row, is_bare, opening_row, phase_rows, phases_rows, scenario_text}
-use Rattle.scen_text.specs.Sentences.{sentence_of, version_of}
-use Rattle.scen_text.specs.Words.{declaration_form, declaration_spelling}
+use Rattle.scen_words.specs.Rows.{declaration_row}
+use Rattle.scen_text.specs.ScenarioText.{bare_row, block_rows, is_bare, opening_row, phase_rows, phases_rows, scenario_text}
+use Rattle.scen_words.specs.Sentences.{sentence_of, version_of}
+use Rattle.scen_words.specs.Words.{declaration_form, declaration_spelling}
 use Rattle.scen_text.proofs.Accepted.{Accepted, said_accepted}
-use Rattle.scen_text.proofs.Flat.{flat, flat_declarations, flat_names, normal, normal_twice}
-use Rattle.scen_text.proofs.Kept.{a_name, by_three, by_two, number16, number32, number64, same2, same3, some_bytes}
+use Rattle.scen_text.proofs.Flat.{flat, flat_declarations, flat_names, normal_twice}
 use Rattle.scen_text.proofs.Made.{Grows, LinesFrom, MadePhase, PhasesFrom, grows_trans, named_at, with_grows}
 use Rattle.scen_text.proofs.MadeAll.{decls, phases_made}
 use Rattle.scen_text.proofs.MadeDecls.{DeclsFrom, MadeDecl, decls_made}
-use Rattle.scen_text.proofs.Played.{Played, allowed, kept_name, line_again, nothing, one_line, order_none, phases_grow, then_more}
+use Rattle.scen_text.proofs.Played.{Laws, Played, allowed, kept_name, line_again, nothing, one_line, order_none, phases_grow, then_more}
 use Rattle.scen_text.proofs.PlayedPhases.{Reaches, Shows, bare_said, before_more, block_play, free, inner, none_is, row_is, run_place, run_play, some_inner}
-use Rattle.scen_text.proofs.Rows.{Laws, declarations_again, openings_again}
 
 -- ---- a phase
 
@@ -73,7 +69,7 @@ whole_block laws version final h f m flag pre p s made grows =
     let rest = block_play laws version final n made.few pre [] p.lines (Opens n ∷ h) f m (open_shows h f (place_by flag) pre n s) made.lines grows in
     record {
       to = rest.to;
-      played = before_more version h rest.to (line_of (opening_row p)) (Opens n) (inner final p.lines) (some_inner final p.lines) (openings_again laws version n made.some made.few)
+      played = before_more version h rest.to (line_of (opening_row p)) (Opens n) (inner final p.lines) (some_inner final p.lines) (laws.openings version n made.some made.few)
           (open_none h n (ap is_block s.place ∙ not_block flag)) rest.played;
       shows = record { flat_is = rest.shows.flat_is; place = rest.shows.place; phases = rest.shows.phases ∙ ap (λ (x : Phase). pre ++ x ∷ []) (sym made.is) };
     }
@@ -91,7 +87,7 @@ bare_play laws version final h f m pre (l ∷ ls) s lines some grows =
     let w = lines.0 in
     let v = lines.1 in
     let made = lines.2 in
-    let row = row_is final f m 1 l w v ls made lines.3 grows in
+    let row = row_is laws final f m 1 l w v ls made lines.3 grows in
     let block : is_block (place_of h) ≡ false = ap is_block s.place in
     let first = one_line version h (line_of (bare_row final l)) (Orders None w v) (bare_said laws version final l w v row made.ordered.fits)
     (λ last. order_none h last None w v (allowed h f w v s.flat_is made.ordered) (free h last block)) in
@@ -144,31 +140,6 @@ phases_play laws version final (p ∷ ps) h f g flag pre s made grows =
 
 -- ---- declarations
 
-word_kept : (n : ℕ) (w : DeclarationWord) (v : List Value) → declaration_word (declaration_of n w v) ≡ w
-unfolding declaration_of
-word_kept n declaration.File v = refl
-word_kept n declaration.Region v = refl
-word_kept n declaration.Vhost v = refl
-word_kept n declaration.Prog v = refl
-word_kept n declaration.Flows v = refl
-
-abbrev DeclKept : List (List ℕ) → ℕ → DeclarationWord → List Value → Type 0
-DeclKept names n w v = IfSome (declared_name w v) (λ name. name_of names n ≡ name) → declaration_values names (declaration_of n w v) ≡ v
-
-decl_kept : (names : List (List ℕ)) (n : ℕ) (w : DeclarationWord) (v : List Value) → FitForm (declaration_form w) v → normal w v ≡ v → DeclKept names n w v
-unfolding declaration_of declaration_values
-decl_kept names n declaration.File v h same = λ e. same
-decl_kept names n declaration.Region v h same =
-    by_three (DeclKept names n declaration.Region) (Plain (Number 0 7)) (Plain (Number 0 18446744073709551615)) (Plain (Number 0 18446744073709551615))
-    (λ x y z fx fy fz e. same3 _ _ _ _ _ _ (number16 0 7 x (lit< tt) fx) (number64 0 18446744073709551615 y fy) (number64 0 18446744073709551615 z fz)) v h.each
-decl_kept names n declaration.Vhost v h same =
-    by_two (DeclKept names n declaration.Vhost) (Plain (Number 0 63)) (Plain (Number 0 7)) (λ x y fx fy e. same2 _ _ _ _ (number16 0 63 x (lit< tt) fx) (number16 0 7 y (lit< tt) fy)) v h.each
-decl_kept names n declaration.Prog v h same =
-    by_two (DeclKept names n declaration.Prog) (Plain (Number 0 63)) (Plain Hex) (λ x y fx fy e. same2 _ _ _ _ (number16 0 63 x (lit< tt) fx) (some_bytes y fy)) v h.each
-decl_kept names n declaration.Flows v h same =
-    by_three (DeclKept names n declaration.Flows) (Plain Name) (Plain (Number 1 65536)) (Plain (Number 1 1000000000))
-    (λ x y z fx fy fz e. same3 _ _ _ _ _ _ (a_name names n x fx e) (number32 1 65536 y (lit< tt) fy) (number64 1 1000000000 z fz)) v h.each
-
 decls_grow : (version : ℕ) (f : List Sentence) (ds : List Declaration) (g : List Sentence) → DeclsFrom version f ds g → Grows (names_of f) (names_of g)
 unfolding names_of
 decls_grow version f [] g e = ([], sym (append-nil (names_of f) ∙ ap names_of e))
@@ -178,13 +149,13 @@ decls_grow version f (d ∷ ds) g h =
 abbrev decl_row : DeclarationWord → List Value → List (List ℕ)
 decl_row w v = declaration_spelling w ∷ fields_for (declaration_form w) v
 
-decl_written : (version : ℕ) (final : List (List ℕ)) (f : List Sentence) (d : Declaration) (w : DeclarationWord) (v : List Value) → MadeDecl version f d w v → Grows (with_name (names_of f) (declared_name w v)) final
+decl_written : Laws → (version : ℕ) (final : List (List ℕ)) (f : List Sentence) (d : Declaration) (w : DeclarationWord) (v : List Value) → MadeDecl version f d w v → Grows (with_name (names_of f) (declared_name w v)) final
     → declaration_row final d ≡ decl_row w v
-decl_written version final f d w v m grows =
+decl_written laws version final f d w v m grows =
     let n = number_for (names_of f) (declared_name w v) in
-    let values = decl_kept final n w v m.fits m.normal_is (kept_name (names_of f) final (declared_name w v) (named_at (names_of f) final (declared_name w v) grows)) in
+    let values = laws.declaration_values final n w v m.fits (kept_name (names_of f) final (declared_name w v) (named_at (names_of f) final (declared_name w v) grows)) in
     ap (declaration_row final) m.is
-    ∙ ap (λ (x : DeclarationWord). declaration_spelling x ∷ fields_for (declaration_form x) (declaration_values final (declaration_of n w v))) (word_kept n w v) ∙ ap (λ (x : List Value). decl_row w x) values
+    ∙ ap (λ (x : DeclarationWord). declaration_spelling x ∷ fields_for (declaration_form x) (declaration_values final (declaration_of n w v))) (laws.declaration_words n w v) ∙ ap (λ (x : List Value). decl_row w x) (values ∙ m.normal_is)
 
 grown_by : (version : ℕ) (final : List (List ℕ)) (f : List Sentence) (ds : List Declaration) (g : List Sentence) (w : DeclarationWord) (v : List Value) → DeclsFrom version (Declares w v ∷ f) ds g → Grows (names_of g) final
     → Grows (with_name (names_of f) (declared_name w v)) final
@@ -197,8 +168,8 @@ decls_play laws version final (d ∷ ds) f g h grows =
     let w = h.0 in
     let v = h.1 in
     let m = h.2 in
-    let row = decl_written version final f d w v m (grown_by version final f ds g w v h.3 grows) in
-    let said = ap (λ (r : List (List ℕ)). sentence_of version (line_of r)) row ∙ declarations_again laws version w v m.known m.fits in
+    let row = decl_written laws version final f d w v m (grown_by version final f ds g w v h.3 grows) in
+    let said = ap (λ (r : List (List ℕ)). sentence_of version (line_of r)) row ∙ laws.declarations version w v m.known m.fits in
     then_more version f (Declares w v ∷ f) g (line_of (declaration_row final d) ∷ []) (map line_of (map (declaration_row final) ds)) (one_line version f (line_of (declaration_row final d)) (Declares w v) said m.fine)
     (decls_play laws version final ds (Declares w v ∷ f) g h.3 grows)
 
@@ -272,18 +243,18 @@ pub record Given (said : Said) : Type 0 where
 abbrev Histories : Type 0
 Histories = Result (List Sentence) ScenFault
 
-taken_by : FormsAreWrittenAgain → (lines : List (List ℕ)) (version : ℕ) (said : Said) → IsVersion version → (r : Histories) → said_from version [] 2 lines ≡ r → (r >>= λ sentences. Ok (said_in version sentences)) ≡ Ok said → Given said
+taken_by : SentencesFit → (lines : List (List ℕ)) (version : ℕ) (said : Said) → IsVersion version → (r : Histories) → said_from version [] 2 lines ≡ r → (r >>= λ sentences. Ok (said_in version sentences)) ≡ Ok said → Given said
 taken_by law lines version said ok (Ok sentences) is e =
     let same : said_in version sentences ≡ said = cc in
     subst Given same (record { version = ok; accepted = said_accepted law version [] 2 lines sentences tt is })
 taken_by law lines version said ok (Err why) is e = absurd cc
 
-first_by : FormsAreWrittenAgain → (lines : List (List ℕ)) (first : List ℕ) (said : Said) (r : Result ℕ Why) → version_of first ≡ r
+first_by : SentencesFit → (lines : List (List ℕ)) (first : List ℕ) (said : Said) (r : Result ℕ Why) → version_of first ≡ r
     → (at_line 1 r >>= λ version. said_from version [] 2 lines >>= λ sentences. Ok (said_in version sentences)) ≡ Ok said → Given said
 first_by law lines first said (Ok version) is e = taken_by law lines version said (is_version first version is) (said_from version [] 2 lines) refl e
 first_by law lines first said (Err why) is e = absurd cc
 
-given_lines : FormsAreWrittenAgain → (lines : List (List ℕ)) (said : Said) → said_of_lines lines ≡ Ok said → Given said
+given_lines : SentencesFit → (lines : List (List ℕ)) (said : Said) → said_of_lines lines ≡ Ok said → Given said
 unfolding said_of_lines
 given_lines law [] said e = absurd cc
 given_lines law (first ∷ lines) said e = first_by law lines first said (version_of first) refl e
@@ -292,9 +263,9 @@ within_limit : (b : Bool) (r : Result Said ScenFault) (said : Said) (fault : Sce
 within_limit true r said fault e = absurd cc
 within_limit false r said fault e = e
 
-pub given : FormsAreWrittenAgain → (bytes : List ℕ) (said : Said) → said_of bytes ≡ Ok said → Given said
+pub given : SentencesFit → (bytes : List ℕ) (said : Said) → said_of bytes ≡ Ok said → Given said
 unfolding said_of
-given law bytes said e = given_lines law (lines_of bytes) said (within_limit (ltb byte_limit (length bytes)) (said_of_lines (lines_of bytes)) said _ e)
+given law bytes said e = given_lines law (lines_of bytes) said (within_limit (ltb MAX_BYTES (length bytes)) (said_of_lines (lines_of bytes)) said _ e)
 
 -- ---- the printed text
 
@@ -331,13 +302,13 @@ unfolding said_of_lines
 said_lines version lines to v p = rw (v.read, taken_whole version lines to p) refl
 
 said_text : LinesAreCutAgain → (version : ℕ) (rows : List (List (List ℕ))) (to : List Sentence) → IsVersion version → Played version [] (map line_of rows) to
-    → length (text (version_row version ∷ rows)) ≤ byte_limit → said_of (text (version_row version ∷ rows)) ≡ Ok (said_in version to)
+    → length (text (version_row version ∷ rows)) ≤ MAX_BYTES → said_of (text (version_row version ∷ rows)) ≡ Ok (said_in version to)
 unfolding said_of
 said_text cut version rows to v p few =
     let all = version_row version ∷ rows in
     let good : list_all is_text_line (map line_of all) ≡ true = and_from (is_text_line (line_of (version_row version))) (list_all is_text_line (map line_of rows)) v.text p.text in
     let lines : lines_of (text all) ≡ map line_of all = ap lines_of (text_is all) ∙ cut (map line_of all) good in
-    let short : ltb byte_limit (length (text all)) ≡ false = le-ltb byte_limit (length (text all)) few in
+    let short : ltb MAX_BYTES (length (text all)) ≡ false = le-ltb MAX_BYTES (length (text all)) few in
     ap (λ (b : Bool). cond b (Err (record { line = 0; why = why.TooLong })) (said_of_lines (lines_of (text all)))) short ∙ ap said_of_lines lines ∙ said_lines version (map line_of rows) to v p
 
 abbrev scenario_by : ℕ → List Declaration → List (List ℕ) → List Phase → Scenario
@@ -351,15 +322,15 @@ same_scenario version e to same phases =
     ap (λ (x : List Declaration). scenario_by version x (names_of e) (phases_of e)) ds ∙ ap (λ (x : List (List ℕ)). scenario_by version (declarations_of to) x (phases_of e)) names
     ∙ ap (λ (x : List Phase). scenario_by version (declarations_of to) (names_of to) x) (sym phases)
 
-stands_said : Laws → LinesAreCutAgain → (said : Said) → Given said → length (scenario_text (scenario_of said)) ≤ byte_limit → Stands (scenario_text (scenario_of said)) (scenario_of said)
+stands_said : Laws → LinesAreCutAgain → (said : Said) → Given said → length (scenario_text (scenario_of said)) ≤ MAX_BYTES → Stands (scenario_text (scenario_of said)) (scenario_of said)
 unfolding scenario_of
 stands_said laws cut said g few =
     let p = printed laws said.version said.sentences g.accepted in
     let rows = map (declaration_row (names_of said.sentences)) (declarations_of said.sentences) ++ phases_rows (names_of said.sentences) false (phases_of said.sentences) in
     (said_in said.version p.to, said_text cut said.version rows p.to g.version p.played few, same_scenario said.version said.sentences p.to p.flat_is p.phases)
 
-pub printed_stands : Laws → LinesAreCutAgain → FormsAreWrittenAgain → PrintedStands
+pub printed_stands : Laws → LinesAreCutAgain → SentencesFit → PrintedStands
 printed_stands laws cut law bytes s stands few =
     let said = stands.0 in
     subst (λ (x : Scenario). Stands (scenario_text x) x) (sym stands.2)
-    (stands_said laws cut said (given law bytes said stands.1) (subst (λ (x : Scenario). length (scenario_text x) ≤ byte_limit) stands.2 few))
+    (stands_said laws cut said (given law bytes said stands.1) (subst (λ (x : Scenario). length (scenario_text x) ≤ MAX_BYTES) stands.2 few))

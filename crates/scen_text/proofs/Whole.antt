@@ -1,19 +1,19 @@
 -- A whole text: what its first line and the lines behind it make.
-use Rattle.std.proofs.Common.{◌≡◌, ℕ, ◌+◌, ◌<◌, ◌≤◌, ◌^◌, Bool, true, false, List, [], ◌∷◌, length, Option, Some, None, Result, Ok, Err, refl, sym, ap, ◌∙◌, ltb, arith}
+use Rattle.std.proofs.Common.{◌≡◌, ℕ, ◌+◌, ◌<◌, ◌≤◌, ◌^◌, List, [], ◌∷◌, length, Some, Ok, Err, refl, ap, arith}
 use Rattle.std.proofs.lemmas.Bool.{le-ltb, lt-ltb}
 use Rattle.text_fields.specs.Lines.{lines_of}
 use Rattle.scen_text.specs.declared.builder.Builder.{Builder}
-use Rattle.scen_text.specs.declared.fault.OrMemory.{OrMemory}
-use Rattle.scen_text.specs.declared.fault.OrMemory.TheVariants as error
+use Rattle.scen_words.specs.declared.fault.OrMemory.{OrMemory}
+use Rattle.scen_words.specs.declared.fault.OrMemory.TheVariants as error
 use Rattle.scen_text.specs.declared.fault.ScenFault.{ScenFault}
-use Rattle.scen_text.specs.declared.fault.Why.{Why}
-use Rattle.scen_text.specs.declared.fault.Why.TheVariants as why
+use Rattle.scen_words.specs.declared.fault.Why.{Why}
+use Rattle.scen_words.specs.declared.fault.Why.TheVariants as why
 use Rattle.scen_text.specs.declared.scenario.Scenario.{Scenario}
-use Rattle.scen_text.specs.declared.sentence.Sentence.{Sentence}
+use Rattle.scen_words.specs.declared.sentence.Sentence.{Sentence}
 use Rattle.scen_text.specs.Building.{Builds, Keeps}
-use Rattle.scen_text.specs.Refusals.{first_refusal, said_from, said_in, said_of, said_of_lines}
+use Rattle.scen_text.specs.Refusals.{first_refusal, said_in, said_of, said_of_lines}
 use Rattle.scen_text.specs.Scenario.{IsError, Stands, scenario_of}
-use Rattle.scen_text.specs.Sentences.{version_of}
+use Rattle.scen_words.specs.Sentences.{version_of}
 use Rattle.scen_text.proofs.Lines.{lines_bound}
 
 pub too_long : (bytes : List ℕ) → 67108864 < length bytes → first_refusal bytes ≡ Some (let f : ScenFault = record { line = 0; why = why.TooLong } in f)

@@ -1,20 +1,19 @@
 -- This project's own: what the lines before a line say together. A history is the sentences of the lines so far, the
 -- latest first.
-use Rattle.std.specs.Prelude.{ℕ, zero, suc, ◌+◌, ◌-◌, Bool, true, false, ◌&&◌, ◌||◌, not, ◌==◌, nat_lt, nat_le, if◌then◌else◌, List, [], ◌∷◌, ◌++◌, length, map, filter, Option, Some, None, unwrap_or}
-use Rattle.std.specs.List.{list_any}
+use Rattle.std.specs.Prelude.{ℕ, zero, suc, ◌+◌, Bool, true, false, ◌||◌, ◌==◌, nat_lt, if◌then◌else◌, List, [], ◌∷◌, ◌++◌, length, map, filter, Option, Some, None, unwrap_or}
 use Rattle.std.specs.Str.{bytes_eq}
 use Rattle.text_fields.specs.declared.value.Value.{Value}
-use Rattle.scen_text.specs.declared.command.Command.{Command}
+use Rattle.scen_words.specs.declared.command.Command.{Command}
 use Rattle.scen_text.specs.declared.place.Place.{Place}
 use Rattle.scen_text.specs.declared.place.Place.TheVariants.{Outside, Run, Block}
-use Rattle.scen_text.specs.declared.scenario.Declaration.{Declaration}
+use Rattle.scen_words.specs.declared.declaration.Declaration.{Declaration}
 use Rattle.scen_text.specs.declared.scenario.Line.{Line}
 use Rattle.scen_text.specs.declared.scenario.Phase.{Phase}
 use Rattle.scen_text.specs.declared.scenario.Script.{Script}
-use Rattle.scen_text.specs.declared.sentence.Sentence.{Sentence}
-use Rattle.scen_text.specs.declared.sentence.Sentence.TheVariants.{Skipped, Declares, Orders, Opens, Ends}
-use Rattle.scen_text.specs.declared.word.CommandWord.{CommandWord}
-use Rattle.scen_text.specs.Commands.{command_of, commanded_name, declaration_of, declared_name, is_turn}
+use Rattle.scen_words.specs.declared.sentence.Sentence.{Sentence}
+use Rattle.scen_words.specs.declared.sentence.Sentence.TheVariants.{Skipped, Declares, Orders, Opens, Ends}
+use Rattle.scen_words.specs.declared.word.CommandWord.{CommandWord}
+use Rattle.scen_words.specs.Commands.{command_of, commanded_name, declaration_of, declared_name, is_turn}
 
 -- ---- names
 

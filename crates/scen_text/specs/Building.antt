@@ -1,18 +1,16 @@
 -- This project's own: what the reader of a scenario keeps of the lines so far.
-use Rattle.std.specs.Prelude.{◌≡◌, ℕ, ◌+◌, Bool, true, List, [], ◌∷◌, ◌++◌, None, Some, Option, Result, Ok, Err, if◌then◌else◌}
+use Rattle.std.specs.Prelude.{◌≡◌, ℕ, ◌+◌, Bool, true, List, [], ◌∷◌, ◌++◌, None, Some, Option, Result, Ok, Err}
 use Rattle.scen_text.specs.declared.builder.Builder.{Builder}
-use Rattle.scen_text.specs.declared.command.Command.{Command}
-use Rattle.scen_text.specs.declared.fault.OrMemory.{OrMemory}
-use Rattle.scen_text.specs.declared.fault.OrMemory.TheVariants as error
+use Rattle.scen_words.specs.declared.command.Command.{Command}
+use Rattle.scen_words.specs.declared.fault.OrMemory.{OrMemory}
+use Rattle.scen_words.specs.declared.fault.OrMemory.TheVariants as error
 use Rattle.scen_text.specs.declared.fault.ScenFault.{ScenFault}
-use Rattle.scen_text.specs.declared.fault.Why.{Why}
-use Rattle.scen_text.specs.declared.place.Place.{Place}
-use Rattle.scen_text.specs.declared.place.Place.TheVariants.{Outside, Run, Block}
-use Rattle.scen_text.specs.declared.scenario.Declaration.{Declaration}
-use Rattle.scen_text.specs.declared.scenario.Line.{Line}
+use Rattle.scen_words.specs.declared.fault.Why.{Why}
+use Rattle.scen_text.specs.declared.place.Place.TheVariants.{Outside}
+use Rattle.scen_words.specs.declared.declaration.Declaration.{Declaration}
 use Rattle.scen_text.specs.declared.scenario.Phase.{Phase}
-use Rattle.scen_text.specs.declared.sentence.Sentence.{Sentence}
-use Rattle.scen_text.specs.Before.{Before, before, phase_of, phases_of, with_name}
+use Rattle.scen_words.specs.declared.sentence.Sentence.{Sentence}
+use Rattle.scen_text.specs.Before.{Before, before, phases_of, with_name}
 use Rattle.scen_text.specs.Lines.{open_phase, place_after, turns_of}
 use Rattle.scen_text.specs.Refusals.{cause, said_after, said_from}
 

@@ -1,12 +1,12 @@
 -- This project's own: what a command does to the place and the lines of the phase that is open.
 use Rattle.std.specs.Prelude.{ℕ, List, [], ◌∷◌, if◌then◌else◌}
-use Rattle.scen_text.specs.declared.command.Command.{Command}
+use Rattle.scen_words.specs.declared.command.Command.{Command}
 use Rattle.scen_text.specs.declared.place.Place.{Place}
 use Rattle.scen_text.specs.declared.place.Place.TheVariants.{Outside, Run, Block}
 use Rattle.scen_text.specs.declared.scenario.Line.{Line}
 use Rattle.scen_text.specs.declared.scenario.Phase.{Phase}
 use Rattle.scen_text.specs.Before.{phase_of}
-use Rattle.scen_text.specs.Commands.{is_turn}
+use Rattle.scen_words.specs.Commands.{is_turn}
 
 -- a command outside a block stands in a run
 abbrev pub place_after : Place → Place

@@ -1,7 +1,7 @@
 -- This project's own: the refusals of a scenario. For each of them one equation says when a line is refused for it,
 -- over what the lines before it say together; the first refusal is the first line's that has one, and on it the one
 -- with the least number.
-use Rattle.std.specs.Prelude.{◌≡◌, ℕ, suc, ◌+◌, ◌<◌, ◌≤◌, Bool, true, false, ◌&&◌, ◌||◌, not, ◌==◌, nat_lt, nat_le, if◌then◌else◌, List, [], ◌∷◌, ◌++◌, length, Option, Some, None, MatchOption, Result, Ok, Err}
+use Rattle.std.specs.Prelude.{ℕ, suc, Bool, true, false, ◌&&◌, ◌||◌, not, ◌==◌, nat_lt, nat_le, if◌then◌else◌, List, [], ◌∷◌, ◌++◌, length, Option, Some, None, Result, Ok, Err}
 use Rattle.std.specs.List.{list_any, filter_map}
 use Rattle.std.specs.Option.{option_map}
 use Rattle.std.specs.Result.{result_err}
@@ -9,20 +9,20 @@ use Rattle.ebpf_code.specs.FirstFault.{first_fault}
 use Rattle.guest_mem.specs.declared.region.Region.{Region as Piece}
 use Rattle.guest_mem.specs.Regions.{refusal}
 use Rattle.text_fields.specs.Lines.{lines_of}
-use Rattle.scen_text.specs.declared.command.Command.{Command}
+use Rattle.scen_words.specs.declared.command.Command.{Command}
 use Rattle.scen_text.specs.declared.fault.ScenFault.{ScenFault}
-use Rattle.scen_text.specs.declared.fault.Why.{Why}
-use Rattle.scen_text.specs.declared.fault.Why.TheVariants as why
+use Rattle.scen_words.specs.declared.fault.Why.{Why}
+use Rattle.scen_words.specs.declared.fault.Why.TheVariants as why
 use Rattle.scen_text.specs.declared.place.Place.{Place}
-use Rattle.scen_text.specs.declared.place.Place.TheVariants.{Outside, Run, Block}
-use Rattle.scen_text.specs.declared.scenario.Declaration.{Declaration}
-use Rattle.scen_text.specs.declared.scenario.Declaration.TheVariants.{File, Region, Vhost, Prog, Flows}
-use Rattle.scen_text.specs.declared.sentence.Sentence.{Sentence}
-use Rattle.scen_text.specs.declared.sentence.Sentence.TheVariants.{Skipped, Declares, Orders, Opens, Ends}
+use Rattle.scen_text.specs.declared.place.Place.TheVariants.{Block}
+use Rattle.scen_words.specs.declared.declaration.Declaration.{Declaration}
+use Rattle.scen_words.specs.declared.declaration.Declaration.TheVariants.{File, Region, Vhost, Prog, Flows}
+use Rattle.scen_words.specs.declared.sentence.Sentence.{Sentence}
+use Rattle.scen_words.specs.declared.sentence.Sentence.TheVariants.{Skipped, Declares, Orders, Opens, Ends}
 use Rattle.scen_text.specs.Before.{Before, before, number_among, number_for}
-use Rattle.scen_text.specs.Commands.{command_of, commanded_name, declaration_of, declared_name, file_of, guest_of, is_turn, program_of, vhost_of}
-use Rattle.scen_text.specs.Limits.{byte_limit, command_limit, name_limit, turn_limit}
-use Rattle.scen_text.specs.Sentences.{sentence_of, version_of}
+use Rattle.scen_words.specs.Commands.{command_of, commanded_name, declaration_of, declared_name, file_of, guest_of, is_turn, program_of, vhost_of}
+use Rattle.scen_words.specs.declared.limits.TheConstants.{MAX_BYTES, MAX_COMMANDS, MAX_NAMES, MAX_TURNS}
+use Rattle.scen_words.specs.Sentences.{sentence_of, version_of}
 
 infixl 10 ◌>>=◌
 abbrev pub ◌>>=◌ : {A B E : Type 0} → Result A E → (A → Result B E) → Result B E
@@ -89,7 +89,7 @@ program_why d = None
 -- 14, Limit: it would bring one name too many
 abbrev pub passes_names : List (List ℕ) → Option (List ℕ) → Bool
 passes_names names None = false
-passes_names names (Some name) = nat_le name_limit (number_among names name)
+passes_names names (Some name) = nat_le MAX_NAMES (number_among names name)
 
 -- ---- a command among the declarations
 
@@ -106,7 +106,7 @@ is_unknown ds c =
 -- 14, Limit: one command, turn or name too many, behind so many commands and turns
 unfoldable pub passes_limit : ℕ → ℕ → List (List ℕ) → Option (List ℕ) → Command → Bool
 passes_limit commands turns names name c =
-    nat_le command_limit commands || (is_turn c && nat_le turn_limit turns) || passes_names names name
+    nat_le MAX_COMMANDS commands || (is_turn c && nat_le MAX_TURNS turns) || passes_names names name
 
 -- ---- where lines may stand
 
@@ -206,7 +206,7 @@ said_of_lines (line ∷ lines) =
 -- 1, TooLong: more bytes than the limit; it is told at line 0, before all others
 unfoldable pub said_of : List ℕ → Result Said ScenFault
 said_of bytes =
-    if nat_lt byte_limit (length bytes) then Err (record { line = 0; why = why.TooLong })
+    if nat_lt MAX_BYTES (length bytes) then Err (record { line = 0; why = why.TooLong })
     else said_of_lines (lines_of bytes)
 
 -- the first refusal of a text

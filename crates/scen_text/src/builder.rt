@@ -2,30 +2,25 @@
 
 ghost use Rattle.std.specs.Prelude.{◌≡◌, ◌≤◌, ◌++◌, ◌∷◌, [], OnOk, length};
 ghost use Rattle.scen_text.specs.Lines.{lines_before, open_phase, turns_of};
+ghost use Rattle.scen_words.specs.declared.limits.TheConstants.{MAX_COMMANDS, MAX_NAMES, MAX_TURNS};
 
-use crate::command::Command;
 use crate::declared::{
     has_file, has_flows, has_guest, has_program, has_vhost, is_unknown, region_refusal,
-};
-use crate::fault::{OrMemory, Why};
-use crate::meaning::{
-    command_of, commanded_name, declared_name, file, flows, program, region, u16_at, vhost,
 };
 use crate::naming::{add_name, number_for, passes_names};
 use crate::phases::phase_of;
 use crate::place::Place;
-use crate::saying::sentence_of;
-use crate::scenario::{Declaration, Line, Phase, Scenario};
-use crate::sentence::Sentence;
-use crate::word::{CommandWord, DeclarationWord};
+use crate::scenario::{Line, Phase, Scenario};
+use scen_words::meaning::{
+    command_of, commanded_name, declared_name, file, flows, program, region, u16_at, vhost,
+};
+use scen_words::{
+    Command, CommandWord, Declaration, DeclarationWord, MAX_COMMANDS, MAX_TURNS, OrMemory,
+    Sentence, Why, sentence_of,
+};
 use sqlite_items::Items;
 use std::alloc::{AllocError, Global};
 use text_fields::{DeviceName, Value};
-
-/// The most commands of a scenario.
-const MAX_COMMANDS: u32 = 200_000;
-/// The most turns among them.
-const MAX_TURNS: u32 = 512;
 
 /// What is kept of the lines of a scenario so far.
 #[derive(Drop)]
@@ -41,9 +36,9 @@ pub struct Builder {
     pub place: Place,
     pub commands: u32,
     pub turns: u32,
-    ghost few_names: { length names ≤ 64 },
-    ghost few_commands: { commands ≤ 200000 },
-    ghost few_turns: { turns ≤ 512 },
+    ghost few_names: { length names ≤ MAX_NAMES },
+    ghost few_commands: { commands ≤ MAX_COMMANDS },
+    ghost few_turns: { turns ≤ MAX_TURNS },
 }
 
 // How many turns a command is: one or none.
@@ -91,14 +86,14 @@ fn push_open(
 impl Builder {
     ghost use Rattle.std.specs.Prelude.{◌+◌, false, ◌<◌, IfOk};
     ghost use Rattle.std.specs.Option.{option_copied};
-    ghost use Rattle.scen_text.specs.declared.sentence.Sentence.TheVariants as sentence;
-    ghost use Rattle.scen_text.specs.declared.word.DeclarationWord.TheVariants as declaration;
+    ghost use Rattle.scen_words.specs.declared.sentence.Sentence.TheVariants as sentence;
+    ghost use Rattle.scen_words.specs.declared.word.DeclarationWord.TheVariants as declaration;
     ghost use Rattle.scen_text.specs.Building.{HearsLine, Keeps, Takes, closed, shown, standing, with_command, with_declaration};
     ghost use Rattle.scen_text.specs.Before.{add_line};
     ghost use Rattle.std.specs.Prelude.{List};
     ghost use Rattle.scen_text.specs.Refusals.{passes_limit, passes_names, said_in};
     ghost use Rattle.scen_text.specs.Scenario.{scenario_of};
-    ghost use Rattle.scen_text.specs.declared.sentence.Sentence.{Sentence};
+    ghost use Rattle.scen_words.specs.declared.sentence.Sentence.{Sentence};
 
     pub fn new(alloc: Global) -> Builder
         ensures { Keeps result [] }
@@ -250,8 +245,8 @@ impl Builder {
         command: Command,
     ) -> Result<(), AllocError>
         requires room { passes_names self.old.names (option_copied name) ≡ false }
-        requires commands { self.old.commands < 200000 }
-        requires turns { self.old.turns + turns_of command ≤ 512 }
+        requires commands { self.old.commands < MAX_COMMANDS }
+        requires turns { self.old.turns + turns_of command ≤ MAX_TURNS }
         ensures standing { OnOk result (standing self.new
             ≡ with_command (standing self.old) command (option_copied name.entry)) }
         ensures phases { OnOk result (shown self.new ≡ add_line self.old.place

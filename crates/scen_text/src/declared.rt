@@ -3,13 +3,12 @@
 ghost use Rattle.std.specs.Prelude.{◌≡◌, ◌++◌, ◌∷◌, [], map, IfOk, Some};
 ghost use Rattle.std.specs.List.{list_any, filter_map};
 ghost use Rattle.guest_mem.specs.Regions.{refusal};
-ghost use Rattle.scen_text.specs.Commands.{u16_at, u64_at};
+ghost use Rattle.scen_words.specs.Commands.{u16_at, u64_at};
 ghost use Rattle.scen_text.specs.Refusals.{is_file, is_flows, is_guest, is_program, is_unknown, is_vhost, lacks, piece_of, regions_of};
 
-use crate::command::Command;
-use crate::meaning::{u16_at, u64_at};
-use crate::scenario::Declaration;
 use guest_mem::{Region, RegionFault, region_fault};
+use scen_words::meaning::{u16_at, u64_at};
+use scen_words::{Command, Declaration};
 use std::alloc::{AllocError, Global};
 use text_fields::Value;
 

@@ -1,68 +1,7 @@
-//! Why a scenario is refused.
+//! The refusal of a scenario.
 
-ghost use Rattle.std.specs.Prelude.{◌≡◌};
-ghost use Rattle.scen_text.specs.Why.{why_number};
-
-use ebpf_code::CodeFault;
-use guest_mem::RegionFault;
-use std::alloc::{AllocError, AllocFailed};
-
-/// Why a scenario is refused.
-#[derive(Clone, Copy, Debug, PartialEq, Eq)]
-pub enum Why {
-    /// It has more than 67,108,864 bytes.
-    TooLong,
-    /// A byte that isn't one of 0x20 to 0x7e.
-    NotText,
-    /// The first line is neither `tapscen 1` nor `tapscen 2`.
-    Version,
-    /// An unknown word.
-    Word,
-    /// An empty field, or too few or too many.
-    Fields,
-    /// The form or the range of a number or of a name.
-    Number,
-    /// Hexadecimal digits, or their count.
-    Hex,
-    /// A declaration after a command or a phase.
-    Late,
-    /// Declared twice.
-    Twice,
-    /// A file, guest, vhost or program that isn't declared.
-    Unknown,
-    /// The guest's regions so far make no memory.
-    Region(RegionFault),
-    /// The bytes are no program.
-    Program(CodeFault),
-    /// A command, `phase` or `end` in a place where it can't stand, or a phase that isn't ended.
-    Phase,
-    /// One command, turn or name too many.
-    Limit,
-}
-
-impl Why {
-    /// The number that is printed for the refusal.
-    pub fn number(self) -> u8
-        ensures { result ≡ why_number self }
-    {
-        match self {
-            Why::TooLong => 1,
-            Why::NotText => 2,
-            Why::Version => 3,
-            Why::Word => 4,
-            Why::Fields => 5,
-            Why::Number => 6,
-            Why::Hex => 7,
-            Why::Late => 8,
-            Why::Twice => 9,
-            Why::Unknown => 10,
-            Why::Region(_) => 11,
-            Why::Program(_) => 12,
-            Why::Phase => 13,
-            Why::Limit => 14,
-        }
-    }
-}
+use scen_words::Why;
+use std::fmt;
 
 /// The first refusal of a scenario, with its line from 1, or 0 for the text as a whole.
 #[derive(Clone, Copy, Debug, PartialEq, Eq)]
@@ -71,31 +10,17 @@ pub struct ScenFault {
     pub why: Why,
 }
 
-/// A fault, or want of memory.
-#[derive(Clone, Copy, Debug, PartialEq, Eq)]
-pub enum OrMemory<E> {
-    Fault(E),
-    NoMemory,
-}
+/// `refused LINE WHY`, and the further numbers of the refusal.
+impl fmt::Display for ScenFault {
+    ghost use Rattle.std.specs.Prelude.{Some};
+    ghost use Rattle.std.specs.List.{join_with_byte};
+    ghost use Rattle.scen_text.specs.Refused.{refused_fields};
 
-impl<E> From<AllocError> for OrMemory<E> {
-    ghost use Rattle.std.specs.Prelude.{◌≡◌};
-    ghost use Rattle.scen_text.specs.declared.fault.OrMemory.TheVariants.{NoMemory};
+    ghost output = { λ fault. Some (join_with_byte 32 (refused_fields fault)) };
 
-    ghost from_gives = { λ _ e. e ≡ NoMemory };
-
-    fn from(_e: AllocError) -> OrMemory<E> {
-        OrMemory::NoMemory
-    }
-}
-
-impl<E, T: Drop> From<AllocFailed<T>> for OrMemory<E> {
-    ghost use Rattle.std.specs.Prelude.{◌≡◌};
-    ghost use Rattle.scen_text.specs.declared.fault.OrMemory.TheVariants.{NoMemory};
-
-    ghost from_gives = { λ _ e. e ≡ NoMemory };
-
-    fn from(_e: AllocFailed<T>) -> OrMemory<E> {
-        OrMemory::NoMemory
+    fn fmt<W: fmt::Write>(&self, f: &mut fmt::Formatter<W>) -> fmt::Result {
+        let line = self.line;
+        let why = self.why;
+        write!(f, "refused {line} {why}")
     }
 }

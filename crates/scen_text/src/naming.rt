@@ -6,12 +6,10 @@ ghost use Rattle.std.specs.Str.{bytes_eq};
 ghost use Rattle.scen_text.specs.Before.{number_among, number_for, with_name};
 ghost use Rattle.scen_text.specs.Refusals.{passes_names};
 
+use scen_words::MAX_NAMES;
 use sqlite_items::Items;
 use std::alloc::AllocError;
 use text_fields::DeviceName;
-
-/// The most names of a scenario.
-const MAX_NAMES: usize = 64;
 
 fn is_same(name: &DeviceName, other: &DeviceName) -> bool
     ensures { result ≡ bytes_eq name.now other.now }
@@ -56,10 +54,10 @@ pub fn passes_names(names: &[DeviceName], name: Option<&DeviceName>) -> bool
 /// Adds the name where it is new.
 #[tactic(auto, unfolding(crate::specs::Before::with_name))]
 pub fn add_name(names: &mut Items<DeviceName>, name: Option<&DeviceName>) -> Result<(), AllocError>
-    requires few { length names.old ≤ 64 }
+    requires few { length names.old ≤ MAX_NAMES }
     requires room { passes_names names.old (option_copied name) ≡ false }
     ensures ok { OnOk result (names.new ≡ with_name names.old (option_copied name.entry)) }
-    ensures few { length names.new ≤ 64 }
+    ensures few { length names.new ≤ MAX_NAMES }
 {
     if let Some(name) = name {
         if number_among(names.as_slice(), name) >= names.len() {

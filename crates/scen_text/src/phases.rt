@@ -3,8 +3,8 @@
 ghost use Rattle.std.specs.Prelude.{◌≡◌, [], ◌∷◌, ◌++◌, IfOk, OnOk};
 ghost use Rattle.scen_text.specs.Before.{phase_of, script_of, scripts_from};
 
-use crate::command::Command;
 use crate::scenario::{Line, Phase, Script};
+use scen_words::Command;
 use sqlite_items::Items;
 use std::alloc::{AllocError, Global};
 

@@ -5,14 +5,11 @@ ghost use Rattle.scen_text.specs.Building.{Builds, error_at};
 ghost use Rattle.scen_text.specs.Scenario.{IsError, Stands};
 
 use crate::builder::Builder;
-use crate::fault::{OrMemory, ScenFault, Why};
-use crate::saying::version_of;
+use crate::fault::ScenFault;
 use crate::scenario::Scenario;
+use scen_words::{MAX_BYTES, OrMemory, Why, version_of};
 use std::alloc::Global;
 use text_fields::Lines;
-
-/// The most bytes of a scenario's text.
-const MAX_BYTES: usize = 67_108_864;
 
 // The error of a line, with the line's number.
 fn at_line(number: u32, error: OrMemory<Why>) -> OrMemory<ScenFault>

@@ -1,7 +1,6 @@
 //! A scenario as plain data.
 
-use crate::command::Command;
-use ebpf_code::Program;
+use scen_words::{Command, Declaration};
 use sqlite_items::Items;
 use text_fields::DeviceName;
 
@@ -16,39 +15,6 @@ pub struct Scenario {
     pub names: Items<DeviceName>,
     /// The phases, which run one after the other.
     pub phases: Items<Phase>,
-}
-
-/// One declaration.
-#[derive(Drop)]
-pub enum Declaration {
-    /// `file F CAP FIRST`: a file, the number of places of its ring, and the number of its first place.
-    File {
-        file: u16,
-        capacity: u16,
-        first: u64,
-    },
-    /// `region G ADDR LEN`: the next region of a guest's memory.
-    Region {
-        guest: u16,
-        addr: u64,
-        len: u64,
-    },
-    /// `vhost V G`: a vhost over a guest's memory.
-    Vhost {
-        vhost: u16,
-        guest: u16,
-    },
-    /// `prog P HEX`: a program.
-    Prog {
-        program: u16,
-        code: Program,
-    },
-    /// `flows NAME LIMIT AGE`: how many flows the device of this name remembers, and for how many milliseconds.
-    Flows {
-        name: u16,
-        limit: u32,
-        age: u64,
-    },
 }
 
 /// Commands of several actors that run side by side.

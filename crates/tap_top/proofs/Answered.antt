@@ -1,9 +1,9 @@
 -- Commands that are answered one after the other.
 use Rattle.std.proofs.Common.{◌≡◌, ℕ, ◌+◌, ◌<◌, List, [], ◌∷◌, ◌++◌, length, take, get_or, sym, ap, ◌∙◌, arith}
 use Rattle.std.proofs.lemmas.List.{length-take, take_more}
-use Rattle.scen_text.specs.declared.command.Command.{Command}
-use Rattle.scen_text.specs.declared.trace.Answer.{Answer}
-use Rattle.scen_text.specs.declared.trace.AnswerLine.{AnswerLine}
+use Rattle.scen_words.specs.declared.command.Command.{Command}
+use Rattle.trace_text.specs.declared.trace.Answer.{Answer}
+use Rattle.trace_text.specs.declared.trace.AnswerLine.{AnswerLine}
 use Rattle.tap_top.specs.Run.{Entry, answer_to, answers, line_after, line_of}
 
 abbrev pub said : ℕ → Answer → AnswerLine

@@ -6,19 +6,19 @@ use Rattle.std.specs.Io.KnownBytes.{Consumes, IsAtEnd}
 use Rattle.std.specs.Result.{result_err}
 use Rattle.scen_text.specs.declared.fault.ScenFault.{ScenFault}
 use Rattle.scen_text.specs.declared.scenario.Scenario.{Scenario}
-use Rattle.scen_text.specs.Limits.{byte_limit}
+use Rattle.scen_words.specs.declared.limits.TheConstants.{MAX_BYTES}
 use Rattle.scen_text.specs.Refusals.{Said, said_of}
 use Rattle.scen_text.specs.Scenario.{IsRefusal, Stands, scenario_of}
 use Rattle.tap_top.specs.Course.{Course}
 use Rattle.tap_top.specs.Course.Course.{NoMemory, Replied, SourceFailed}
 use Rattle.tap_top.specs.Course.IsSent.{Failed, Lost, OutOfMemory, Whole}
 use Rattle.tap_top.specs.OneFile.{OneFile, is_empty, one_file_of}
-use Rattle.tap_top.specs.Top.{Answers, Ended, IsReply, IsWanted, Reads, Sink, Source, WritesLine, plain_status, served, status_for, usage_line}
-use Rattle.tap_top.specs.Top.IsReply.{Good, Refused}
+use Rattle.tap_top.specs.Top.{Answers, Ended, IsReply, IsWanted, Reads, Sink, Source, Tells, WritesLine, plain_status, reads, reads_input, served, status_for, usage_line}
+use Rattle.tap_top.specs.Top.IsReply.{Good, Made, Refused}
 use Rattle.tap_top.specs.Top.IsWanted.{Reply, Usage}
 use Rattle.tap_top.specs.Top.Reads.{Input, Untouched}
 use Rattle.tap_words.specs.declared.request.Request.{Request}
-use Rattle.tap_words.specs.declared.request.Request.TheVariants.{Plain}
+use Rattle.tap_words.specs.declared.request.Request.TheVariants.{Gen, Plain}
 
 -- ---- one status is wanted
 
@@ -40,27 +40,44 @@ error_is_no_value : (fault : ScenFault) (said : Said) → Err fault ≡ Ok said 
 error_is_no_value fault said e = cc
 
 -- what is longer than the limit isn't good
-long_not_good : (input : List ℕ) (s : Scenario) → byte_limit < length input → Stands input s → ⊥
+long_not_good : (input : List ℕ) (s : Scenario) → MAX_BYTES < length input → Stands input s → ⊥
 unfolding said_of
 long_not_good input s long p =
-    let test : ltb byte_limit (length input) ≡ true = lt-ltb byte_limit (length input) long in
+    let test : ltb MAX_BYTES (length input) ≡ true = lt-ltb MAX_BYTES (length input) long in
     let e = rw test at p.1 in
     error_is_no_value _ p.0 e
 
-long_reply : (r : Request) (input : List ℕ) (s : ℕ) (text : List ℕ) → byte_limit < length input → IsReply r input s text → s ≡ 2
-long_reply r input s text long (Good scenario stands headline out e) = absurd (long_not_good input scenario long stands)
-long_reply r input s text long (Refused fault refusal out e) = e
+-- the generator reads nothing
+made_reads : (r : Request) (count : ℕ) → reads r ≡ true → r ≡ Gen count → ⊥
+made_reads r count yes is = let e : false ≡ true = sym (ap reads is) ∙ yes in cc
+
+long_reply : (r : Request) (input : List ℕ) (s : ℕ) (text : List ℕ) → reads r ≡ true → MAX_BYTES < length input → IsReply r input s text → s ≡ 2
+long_reply r input s text yes long (Good reading scenario stands headline out e) = absurd (long_not_good input scenario long stands)
+long_reply r input s text yes long (Refused reading fault refusal out e) = e
+long_reply r input s text yes long (Made count is out e) = absurd (made_reads r count yes is)
 
 one_request : (q r : Request) → Some q ≡ Some r → q ≡ r
 one_request q r e = cc
 
-one_reply : (q r : Request) (input : List ℕ) (s t : ℕ) (x y : List ℕ) → q ≡ r → IsReply q input s x → IsReply r input t y → s ≡ t
-one_reply q r input s t x y same (Good scenario stands h a e) (Good other good k b d) =
+one_reply : (q r : Request) (input : List ℕ) (s t : ℕ) (x y : List ℕ) → reads q ≡ true → q ≡ r → IsReply q input s x → IsReply r input t y → s ≡ t
+one_reply q r input s t x y yes same (Good reading scenario stands h a e) (Good too other good k b d) =
     e ∙ ap (λ (z : Request). status_for z scenario) same
     ∙ ap (λ (z : Scenario). status_for r z) (one_scenario input scenario other stands good) ∙ sym d
-one_reply q r input s t x y same (Good scenario stands h a e) (Refused fault refusal b d) = absurd (good_or_refused input scenario fault stands refusal)
-one_reply q r input s t x y same (Refused fault refusal a e) (Good scenario stands h b d) = absurd (good_or_refused input scenario fault stands refusal)
-one_reply q r input s t x y same (Refused fault refusal a e) (Refused other refused b d) = e ∙ sym d
+one_reply q r input s t x y yes same (Good reading scenario stands h a e) (Refused too fault refusal b d) = absurd (good_or_refused input scenario fault stands refusal)
+one_reply q r input s t x y yes same (Good reading scenario stands h a e) (Made count is b d) = absurd (made_reads q count yes (same ∙ is))
+one_reply q r input s t x y yes same (Refused reading fault refusal a e) (Good too scenario stands h b d) = absurd (good_or_refused input scenario fault stands refusal)
+one_reply q r input s t x y yes same (Refused reading fault refusal a e) (Refused too other refused b d) = e ∙ sym d
+one_reply q r input s t x y yes same (Refused reading fault refusal a e) (Made count is b d) = absurd (made_reads q count yes (same ∙ is))
+one_reply q r input s t x y yes same (Made count is a e) other = absurd (made_reads q count yes is)
+
+not_both : (b : Bool) → b ≡ true → b ≡ false → ⊥
+not_both b yes no = let e : true ≡ false = sym yes ∙ no in cc
+
+-- where nothing is read the status is 0
+unread_reply : (r : Request) (input : List ℕ) (s : ℕ) (text : List ℕ) → reads r ≡ false → IsReply r input s text → s ≡ 0
+unread_reply r input s text no (Good reading scenario stands h a e) = absurd (not_both (reads r) reading no)
+unread_reply r input s text no (Refused reading fault refusal a e) = absurd (not_both (reads r) reading no)
+unread_reply r input s text no (Made count is a e) = e
 
 -- the bytes that were read are the input that the source told
 whole_input : (left : Option (List ℕ)) (input bytes : List ℕ) → Consumes (Some input) left bytes → IsAtEnd left → input ≡ bytes
@@ -71,12 +88,12 @@ longer : (left : Option (List ℕ)) (input bytes : List ℕ) → Consumes (Some 
 longer (Some rest) input bytes taken = omega (arith, ap length taken, length-append bytes rest)
 longer None input bytes taken = absurd taken
 
-reply_read : (q r : Request) (left : Option (List ℕ)) (input bytes : List ℕ) (s t : ℕ) (x y : List ℕ) → q ≡ r → Consumes (Some input) left bytes
-    → (IsAtEnd left ⊎ (byte_limit < length bytes)) → IsReply q bytes s x → IsReply r input t y → s ≡ t
-reply_read q r left input bytes s t x y same taken (inl end) here there =
-    one_reply q r bytes s t x y same here (subst (λ (i : List ℕ). IsReply r i t y) (whole_input left input bytes taken end) there)
-reply_read q r left input bytes s t x y same taken (inr long) here there =
-    long_reply q bytes s x long here ∙ sym (long_reply r input t y (omega (arith, longer left input bytes taken)) there)
+reply_read : (q r : Request) (left : Option (List ℕ)) (input bytes : List ℕ) (s t : ℕ) (x y : List ℕ) → reads q ≡ true → q ≡ r → Consumes (Some input) left bytes
+    → (IsAtEnd left ⊎ (MAX_BYTES < length bytes)) → IsReply q bytes s x → IsReply r input t y → s ≡ t
+reply_read q r left input bytes s t x y yes same taken (inl end) here there =
+    one_reply q r bytes s t x y yes same here (subst (λ (i : List ℕ). IsReply r i t y) (whole_input left input bytes taken end) there)
+reply_read q r left input bytes s t x y yes same taken (inr long) here there =
+    long_reply q bytes s x yes long here ∙ sym (long_reply r input t y (sym (ap reads same) ∙ yes) (omega (arith, longer left input bytes taken)) there)
 
 no_request : (r : Request) → None ≡ Some r → ⊥
 no_request r e = cc
@@ -84,17 +101,25 @@ no_request r e = cc
 nothing_served : (r : Request) (o : Option Request) → o ≡ None → o ≡ Some r → ⊥
 nothing_served r o none some = no_request r (sym none ∙ some)
 
+-- what is served is read, or not
+reads_served : (words : List (List ℕ)) (r : Request) (b : Bool) → served words ≡ Some r → reads_input (served words) ≡ b → reads r ≡ b
+reads_served words r b asked e = sym (ap reads_input asked) ∙ e
+
+-- what is served is read, so that nothing is to be shown of a source that isn't
+pub unread_not : {untouched : Type 0} (words : List (List ℕ)) (r : Request) → served words ≡ Some r → reads r ≡ true → reads_input (served words) ≡ false → untouched
+unread_not words r asked yes no = absurd (not_both (reads r) yes (reads_served words r false asked no))
+
 -- the same status is wanted of what was read and of what the source told
-one_status : (words : List (List ℕ)) (source : Source) (untouched : Type 0) (input bytes : List ℕ) (s t : ℕ) (x y : List ℕ) → source.left ≡ Some input
+one_status : (words : List (List ℕ)) (source : Source) (untouched : Type 0) (input bytes : List ℕ) (s t : ℕ) (x y : List ℕ) → Tells words source input
     → Reads words source untouched bytes → IsWanted words bytes s x → IsWanted words input t y → s ≡ t
 one_status words source untouched input bytes s t x y told read (Usage other a e) (Usage another b d) = e ∙ sym d
 one_status words source untouched input bytes s t x y told read (Usage other a e) (Reply r asked z) = absurd (nothing_served r (served words) other asked)
 one_status words source untouched input bytes s t x y told read (Reply r asked z) (Usage other b d) = absurd (nothing_served r (served words) other asked)
-one_status words source untouched input bytes s t x y told (Untouched other same) (Reply r asked z) (Reply q too u) =
-    absurd (nothing_served r (served words) other asked)
-one_status words source untouched input bytes s t x y told (Input p asked_too took) (Reply r asked z) (Reply q too u) =
-    reply_read r q source.left_now input bytes s t x y (one_request r q (sym asked ∙ too))
-    (subst (λ (o : Option (List ℕ)). Consumes o source.left_now bytes) told took.to_limit.taken) took.whole z u
+one_status words source untouched input bytes s t x y told (Untouched no same) (Reply r asked z) (Reply q too u) =
+    unread_reply r bytes s x (reads_served words r false asked no) z ∙ sym (unread_reply q input t y (reads_served words q false too no) u)
+one_status words source untouched input bytes s t x y told (Input yes took) (Reply r asked z) (Reply q too u) =
+    reply_read r q source.left_now input bytes s t x y (reads_served words r true asked yes) (one_request r q (sym asked ∙ too))
+    (subst (λ (o : Option (List ℕ)). Consumes o source.left_now bytes) (told yes) took.to_limit.taken) took.whole z u
 
 -- ---- what is wanted at a status
 
@@ -108,16 +133,18 @@ status_low (Plain seed json) s = plain_low (one_file_of s) (is_empty s)
 status_low other s = (omega arith, λ one. omega arith)
 
 low_reply : (r : Request) (input : List ℕ) (s : ℕ) (text : List ℕ) → IsReply r input s text → s ≤ 2
-low_reply r input s text (Good scenario stands h out e) = let l = (status_low r scenario).0 in omega arith
-low_reply r input s text (Refused fault refusal out e) = omega arith
+low_reply r input s text (Good reading scenario stands h out e) = let l = (status_low r scenario).0 in omega arith
+low_reply r input s text (Refused reading fault refusal out e) = omega arith
+low_reply r input s text (Made count is out e) = omega arith
 
 low : (words : List (List ℕ)) (input : List ℕ) (s : ℕ) (text : List ℕ) → IsWanted words input s text → s ≤ 2
 low words input s text (Usage other a e) = omega arith
 low words input s text (Reply r asked z) = low_reply r input s text z
 
 not_one : (r : Request) (input : List ℕ) (s : ℕ) (text : List ℕ) → IsReply r input s text → s ≡ 1 → ⊥
-not_one r input s text (Good scenario stands h out e) one = (status_low r scenario).1 (sym e ∙ one)
-not_one r input s text (Refused fault refusal out e) one = omega arith
+not_one r input s text (Good reading scenario stands h out e) one = (status_low r scenario).1 (sym e ∙ one)
+not_one r input s text (Refused reading fault refusal out e) one = omega arith
+not_one r input s text (Made count is out e) one = omega arith
 
 -- at status 1 nothing is served, and the text is the usage line
 at_one : (words : List (List ℕ)) (input : List ℕ) (s : ℕ) (text : List ℕ) → IsWanted words input s text → s ≡ 1 → (served words ≡ None) × (text ≡ usage_line)
@@ -129,9 +156,10 @@ others : (words : List (List ℕ)) (input : List ℕ) (s : ℕ) (text : List ℕ
 others words input s text (Usage other a e) none = e
 others words input s text (Reply r asked z) none = absurd (nothing_served r (served words) none asked)
 
-untouched_source : (words : List (List ℕ)) (source : Source) (untouched : Type 0) (input : List ℕ) → Reads words source untouched input → served words ≡ None → untouched
-untouched_source words source untouched input (Untouched other same) none = same
-untouched_source words source untouched input (Input r asked took) none = absurd (nothing_served r (served words) none asked)
+-- where nothing is read, the source is untouched
+untouched_source : (words : List (List ℕ)) (source : Source) (untouched : Type 0) (input : List ℕ) → Reads words source untouched input → reads_input (served words) ≡ false → untouched
+untouched_source words source untouched input (Untouched other same) no = same
+untouched_source words source untouched input (Input yes took) no = absurd (not_both (reads_input (served words)) yes no)
 
 -- ---- the call
 
@@ -150,11 +178,11 @@ usage_of : (words : List (List ℕ)) (source : Source) (untouched : Type 0) (inp
     → Reads words source untouched input → IsWanted words input wanted text → wanted ≡ 1 → line text → (served words ≡ None) × untouched × line usage_line
 usage_of words source untouched input text wanted line read want one written =
     let other = at_one words input wanted text want one in
-    (other.0, untouched_source words source untouched input read other.0, subst line other.1 written)
+    (other.0, untouched_source words source untouched input read (ap reads_input other.0), subst line other.1 written)
 
 pub ended : (words : List (List ℕ)) (source : Source) (sink : Sink) (untouched silent tame reliable : Type 0) (status : ℕ)
     → Course words source sink untouched silent tame reliable status → Ended words source sink untouched silent tame reliable status
-ended words source sink untouched silent tame reliable status (SourceFailed r asked fails same still three) = record {
+ended words source sink untouched silent tame reliable status (SourceFailed r asked reading fails same still three) = record {
   done = λ e. absurd (omega arith);
   usage = λ e. absurd (omega arith);
   usage_only = λ other. absurd (nothing_served r (served words) other asked);
@@ -167,10 +195,11 @@ ended words source sink untouched silent tame reliable status (SourceFailed r as
   no_write_failed = λ r. (λ four. omega arith, still);
   out_of_memory = λ e. absurd (omega arith);
   statuses = omega arith;
+  unread = λ no. absurd (not_both (reads r) reading (reads_served words r false asked no));
   taken = (fails.bytes, fails.to_limit);
   complete = λ input text told want calm quiet. absurd (calm fails.fault);
 }
-ended words source sink untouched silent tame reliable status (NoMemory bytes well same still five) = record {
+ended words source sink untouched silent tame reliable status (NoMemory bytes well unread same still five) = record {
   done = λ e. absurd (omega arith);
   usage = λ e. absurd (omega arith);
   usage_only = λ other. inr five;
@@ -183,6 +212,7 @@ ended words source sink untouched silent tame reliable status (NoMemory bytes we
   no_write_failed = λ r. (λ four. omega arith, still);
   out_of_memory = λ e. inl same;
   statuses = omega arith;
+  unread = λ no. (unread no, λ e. omega arith);
   taken = (bytes, well.to_limit);
   complete = λ input text told want calm quiet. inr five;
 }
@@ -201,6 +231,7 @@ ended words source sink untouched silent tame reliable status (Replied input tex
       no_write_failed = λ r. (λ four. omega arith, written.no_fault);
       out_of_memory = λ e. absurd (omega arith);
       statuses = omega arith;
+      unread = λ no. (untouched_source words source untouched input read no, λ e. omega arith);
       taken = (well.0, well.1.to_limit);
       complete = λ i t told other calm quiet. inl (is ∙ one_status words source untouched i input wanted 0 text t told read want other);
     }
@@ -219,6 +250,7 @@ ended words source sink untouched silent tame reliable status (Replied input tex
       no_write_failed = λ r. absurd (bad r);
       out_of_memory = λ e. absurd (omega arith);
       statuses = omega arith;
+      unread = λ no. (untouched_source words source untouched input read no, λ e. omega arith);
       taken = (well.0, well.1.to_limit);
       complete = λ i t told other calm quiet. absurd (quiet breaks.fault);
     }
@@ -236,6 +268,7 @@ ended words source sink untouched silent tame reliable status (Replied input tex
       no_write_failed = λ r. absurd (bad r);
       out_of_memory = λ e. absurd (omega arith);
       statuses = omega arith;
+      unread = λ no. (untouched_source words source untouched input read no, λ e. omega arith);
       taken = (well.0, well.1.to_limit);
       complete = λ i t told other calm quiet. absurd (quiet breaks.fault);
     }
@@ -253,6 +286,7 @@ ended words source sink untouched silent tame reliable status (Replied input tex
       no_write_failed = λ r. (λ four. omega arith, stops.no_fault);
       out_of_memory = λ e. inr (wanted, answer words source untouched input text wanted wanted _ read want refl stops);
       statuses = omega arith;
+      unread = λ no. (untouched_source words source untouched input read no, λ e. omega arith);
       taken = (well.0, well.1.to_limit);
       complete = λ i t told other calm quiet. inr is;
     }

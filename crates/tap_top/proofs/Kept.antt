@@ -8,13 +8,13 @@ use Rattle.std.proofs.lemmas.List.{length-append, length-map, length-take, map-a
 use Rattle.tap_frame.specs.Frame.{FrameValue, bytes_of}
 use Rattle.tap_frame.specs.Spelling.{first_case}
 use Rattle.tap_frame.specs.declared.header.Hdr.{Hdr}
-use Rattle.scen_text.specs.declared.command.Command.{Command}
-use Rattle.scen_text.specs.declared.command.Command.TheVariants.{Send}
+use Rattle.scen_words.specs.declared.command.Command.{Command}
+use Rattle.scen_words.specs.declared.command.Command.TheVariants.{Send}
 use Rattle.tap_ledger.specs.declared.fate.Cause.TheVariants.{Full}
 use Rattle.tap_ledger.specs.declared.fate.Fate.TheVariants as fate
-use Rattle.scen_text.specs.declared.trace.Answer.{Answer}
-use Rattle.scen_text.specs.declared.trace.Answer.TheVariants.{Placed, Dropped, Read, Again}
-use Rattle.scen_text.specs.declared.trace.PlaceLine.{PlaceLine}
+use Rattle.trace_text.specs.declared.trace.Answer.{Answer}
+use Rattle.trace_text.specs.declared.trace.Answer.TheVariants.{Placed, Dropped, Read, Again}
+use Rattle.trace_text.specs.declared.trace.PlaceLine.{PlaceLine}
 use Rattle.tap_top.specs.declared.placed.Placed as known
 use Rattle.tap_top.specs.Engine.{Keeps, entry_of, line_with, lines_from, placed_of}
 use Rattle.tap_top.specs.Output.{place_lines}

@@ -8,13 +8,13 @@ use Rattle.std.proofs.lemmas.List.Sums.{sum_by_push}
 use Rattle.tap_frame.specs.declared.name.Name.{Name}
 use Rattle.tap_frame.specs.declared.reading.BadFrame.{BadFrame}
 use Rattle.tap_frame.specs.Spelling.{first_case}
-use Rattle.scen_text.specs.declared.command.Command.{Command}
-use Rattle.scen_text.specs.declared.command.Command.TheVariants as command
+use Rattle.scen_words.specs.declared.command.Command.{Command}
+use Rattle.scen_words.specs.declared.command.Command.TheVariants as command
 use Rattle.tap_ledger.specs.declared.fate.Cause.TheVariants.{Full}
 use Rattle.tap_top.specs.OneFile.{OneFile}
-use Rattle.scen_text.specs.declared.trace.Answer.{Answer}
-use Rattle.scen_text.specs.declared.trace.Answer.TheVariants.{Dropped, Placed}
-use Rattle.scen_text.specs.declared.trace.AnswerLine.{AnswerLine}
+use Rattle.trace_text.specs.declared.trace.Answer.{Answer}
+use Rattle.trace_text.specs.declared.trace.Answer.TheVariants.{Dropped, Placed}
+use Rattle.trace_text.specs.declared.trace.AnswerLine.{AnswerLine}
 use Rattle.tap_top.specs.Run.{Entry, answer_to, answer_to_read, answer_to_send, answers, ethernet, first_waiting, line_after, line_after_send, line_of, new_entry, read_first, reads, waiting, waits}
 use Rattle.tap_top.specs.Output.{is_drop}
 use Rattle.tap_top.specs.Headline.{InOrder, OneFate, drops_of, entries_of, frame_read, frames_read, has_frame, sends_frame}

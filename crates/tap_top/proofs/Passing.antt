@@ -5,7 +5,7 @@ use Rattle.std.proofs.lemmas.Slice.{between_to_end}
 use Rattle.std.proofs.KnownBytes.{Appends-trans, Consumes-nil, Consumes-trans}
 use Rattle.std.specs.Prelude.{IsErrOf}
 use Rattle.std.specs.Io.KnownBytes.{Appends, Consumes, IsAtEnd}
-use Rattle.scen_text.specs.Limits.{byte_limit}
+use Rattle.scen_words.specs.declared.limits.TheConstants.{MAX_BYTES}
 use Rattle.tap_outside.specs.Ends.{one_more}
 use Rattle.tap_top.specs.Course.{ReadFails, ReadsPiece, ReadsWell}
 use Rattle.tap_top.specs.Top.{Source, TakesInput, source_between}
@@ -20,7 +20,7 @@ reads_none left faults bytes none =
     subst (λ (x : List ℕ). ReadsWell (source_between left left faults faults) x) (sym none) nothing
 
 pub reads_more : (a b c : Option (List ℕ)) (f g h : ℕ) (x y : List ℕ) → ReadsWell (source_between a b f g) x → Consumes b c y → h ≡ g
-    → length x + length y ≤ byte_limit + 1 → ReadsWell (source_between a c f h) (x ++ y)
+    → length x + length y ≤ MAX_BYTES + 1 → ReadsWell (source_between a c f h) (x ++ y)
 reads_more a b c f g h x y before taken same few = record {
   to_limit = record { taken = Consumes-trans a b c x y before.to_limit.taken taken; few = omega (arith, length-append x y) };
   no_fault = same ∙ before.no_fault;
@@ -28,7 +28,7 @@ reads_more a b c f g h x y before taken same few = record {
 
 -- one more piece, which fits what is left of the room
 pub reads_piece : (a b c : Option (List ℕ)) (f g h : ℕ) (x new : List ℕ) (room n : ℕ) → ReadsWell (source_between a b f g) x
-    → ReadsPiece b c x new room n → h ≡ g → length x + room ≤ byte_limit + 1 → ReadsWell (source_between a c f h) new
+    → ReadsPiece b c x new room n → h ≡ g → length x + room ≤ MAX_BYTES + 1 → ReadsWell (source_between a c f h) new
 reads_piece a b c f g h x new room n before p same few =
     let fits : n ≤ room = p.fits in
     let count : n ≡ length p.piece = p.count in
@@ -41,14 +41,14 @@ read_fails a b c f g h W V x before none rose goes_on never = record {
   bytes = x ++ [];
   to_limit = record {
     taken = Consumes-trans a b c x [] before.to_limit.taken none;
-    few = let few : length x ≤ byte_limit + 1 = before.to_limit.few in omega (arith, length-append x []);
+    few = let few : length x ≤ MAX_BYTES + 1 = before.to_limit.few in omega (arith, length-append x []);
   };
   fault = rose ∙ ap one_more before.no_fault;
   not_tame = λ w. never (goes_on w);
 }
 
 -- all that was to be read
-pub reads_input : (source : Source) (bytes : List ℕ) → ReadsWell source bytes → (IsAtEnd source.left_now ⊎ (byte_limit < length bytes)) → TakesInput source bytes
+pub reads_input : (source : Source) (bytes : List ℕ) → ReadsWell source bytes → (IsAtEnd source.left_now ⊎ (MAX_BYTES < length bytes)) → TakesInput source bytes
 reads_input source bytes well whole = record { to_limit = well.to_limit; whole = whole }
 
 -- ---- a sink

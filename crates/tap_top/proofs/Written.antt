@@ -5,15 +5,15 @@ use Rattle.std.specs.declared.alloc.AllocError.{AllocError}
 use Rattle.std.proofs.lemmas.List.{length-append}
 use Rattle.tap_frame.specs.declared.reading.BadFrame.{BadFrame}
 use Rattle.tap_frame.specs.Spelling.{first_case}
-use Rattle.scen_text.specs.declared.command.Command.{Command}
-use Rattle.scen_text.specs.declared.command.Command.TheVariants.{Send, Read}
+use Rattle.scen_words.specs.declared.command.Command.{Command}
+use Rattle.scen_words.specs.declared.command.Command.TheVariants.{Send, Read}
 use Rattle.tap_ledger.specs.declared.fate.Fate.{Fate}
 use Rattle.tap_ledger.specs.declared.fate.Fate.TheVariants as fate
-use Rattle.scen_text.specs.declared.trace.AnswerLine.{AnswerLine}
-use Rattle.scen_text.specs.declared.trace.PlaceLine.{PlaceLine}
-use Rattle.scen_text.specs.declared.trace.Trace.{Trace}
-use Rattle.scen_text.specs.Field.{text}
-use Rattle.scen_text.specs.TraceText.{trace_text}
+use Rattle.trace_text.specs.declared.trace.AnswerLine.{AnswerLine}
+use Rattle.trace_text.specs.declared.trace.PlaceLine.{PlaceLine}
+use Rattle.trace_text.specs.declared.trace.Trace.{Trace}
+use Rattle.scen_words.specs.Field.{text}
+use Rattle.trace_text.specs.TraceText.{trace_text}
 use Rattle.tap_top.specs.Output.{drops, is_drop, output_with, place_lines, report_lines, trace_with}
 use Rattle.tap_top.specs.Run.{Entry, answer_to, answers, ethernet, line_after, line_after_send, line_of, new_entry, read_first, reads, waiting, waits, was_read}
 use Rattle.tap_top.proofs.Line.{count_by-cons}

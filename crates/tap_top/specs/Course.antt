@@ -1,8 +1,8 @@
 -- This project's own: the ways that a run of the program can take between its ends, as its inside says them.
-use Rattle.std.specs.Prelude.{◌≡◌, ℕ, ◌<◌, ◌≤◌, List, ◌++◌, length, Option, Some}
+use Rattle.std.specs.Prelude.{◌≡◌, ℕ, ◌<◌, ◌≤◌, true, false, List, ◌++◌, length, Option, Some}
 use Rattle.std.specs.Io.KnownBytes.{Consumes, IsAtEnd}
 use Rattle.tap_outside.specs.Ends.{one_more}
-use Rattle.tap_top.specs.Top.{Breaks, IsWanted, Reads, Sink, Source, Stops, TakesToLimit, Writes, served}
+use Rattle.tap_top.specs.Top.{Breaks, IsWanted, Reads, Sink, Source, Stops, TakesToLimit, Writes, reads, reads_input, served}
 use Rattle.tap_words.specs.declared.request.Request.{Request}
 
 -- One call took this piece of a source and added it to the bytes before. It fits the room, and where it is empty the
@@ -39,10 +39,11 @@ pub data IsSent (sink : Sink) (reliable : Type 0) (wanted : ℕ) (text : List �
 -- written.
 pub data Course (words : List (List ℕ)) (source : Source) (sink : Sink)
     (untouched silent tame reliable : Type 0) (status : ℕ) : Type 0 where
-  SourceFailed : (request : Request) → served words ≡ Some request → ReadFails source tame → silent
+  SourceFailed : (request : Request) → served words ≡ Some request → reads request ≡ true → ReadFails source tame → silent
       → (sink.faults_now ≡ sink.faults) → status ≡ 3
       → Course words source sink untouched silent tame reliable status
-  NoMemory : (bytes : List ℕ) → ReadsWell source bytes → silent → (sink.faults_now ≡ sink.faults)
+  NoMemory : (bytes : List ℕ) → ReadsWell source bytes → (reads_input (served words) ≡ false → untouched) → silent
+      → (sink.faults_now ≡ sink.faults)
       → status ≡ 5 → Course words source sink untouched silent tame reliable status
   Replied : (input text : List ℕ) (wanted : ℕ) → Reads words source untouched input
       → ((bytes : List ℕ) × ReadsWell source bytes) → IsWanted words input wanted text

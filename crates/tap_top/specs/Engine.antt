@@ -3,7 +3,7 @@ use Rattle.std.specs.Prelude.{◌≡◌, ℕ, ◌+◌, ◌==◌, nat_lt, if◌th
 use Rattle.std.specs.List.{AllByRecursion}
 use Rattle.tap_frame.specs.Frame.{FrameValue, bytes_of}
 use Rattle.tap_ledger.specs.declared.fate.Fate.TheVariants as fate
-use Rattle.scen_text.specs.declared.trace.PlaceLine.{PlaceLine}
+use Rattle.trace_text.specs.declared.trace.PlaceLine.{PlaceLine}
 use Rattle.tap_top.specs.declared.placed.Placed.{Placed}
 use Rattle.tap_top.specs.Run.{Entry, waiting}
 

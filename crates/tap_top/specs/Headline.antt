@@ -3,13 +3,13 @@ use Rattle.std.specs.Prelude.{◌≡◌, ℕ, zero, suc, ◌+◌, ◌==◌, ◌&
 use Rattle.std.specs.List.{AllByRecursion, flat_map}
 use Rattle.tap_frame.specs.declared.name.Name.{Name}
 use Rattle.tap_frame.specs.Spelling.{first_case}
-use Rattle.scen_text.specs.declared.command.Command.{Command}
-use Rattle.scen_text.specs.declared.command.Command.TheVariants as command
+use Rattle.scen_words.specs.declared.command.Command.{Command}
+use Rattle.scen_words.specs.declared.command.Command.TheVariants as command
 use Rattle.tap_ledger.specs.declared.fate.Fate.TheVariants as fate
 use Rattle.tap_top.specs.OneFile.{OneFile}
-use Rattle.scen_text.specs.declared.trace.Answer.{Answer}
-use Rattle.scen_text.specs.declared.trace.Answer.TheVariants.{Version, Bad, Placed, Dropped, Read, Again}
-use Rattle.scen_text.specs.declared.trace.AnswerLine.{AnswerLine}
+use Rattle.trace_text.specs.declared.trace.Answer.{Answer}
+use Rattle.trace_text.specs.declared.trace.Answer.TheVariants.{Version, Bad, Placed, Dropped, Read, Again}
+use Rattle.trace_text.specs.declared.trace.AnswerLine.{AnswerLine}
 use Rattle.tap_top.specs.Run.{Entry, ethernet}
 use Rattle.tap_top.specs.Output.{is_drop, run_answers, run_line}
 

@@ -2,14 +2,14 @@
 use Rattle.std.specs.Prelude.{ℕ, Bool, true, false, ◌&&◌, ◌==◌, nat_le, if◌then◌else◌, List, [], ◌∷◌, length, Option, Some, None}
 use Rattle.std.specs.List.{list_all}
 use Rattle.tap_frame.specs.declared.header.Hdr.{Hdr}
-use Rattle.scen_text.specs.declared.command.Command.{Command}
-use Rattle.scen_text.specs.declared.command.Command.TheVariants.{SetIff, Send, Read}
-use Rattle.scen_text.specs.declared.scenario.Declaration.{Declaration}
-use Rattle.scen_text.specs.declared.scenario.Declaration.TheVariants.{File}
+use Rattle.scen_words.specs.declared.command.Command.{Command}
+use Rattle.scen_words.specs.declared.command.Command.TheVariants.{SetIff, Send, Read}
+use Rattle.scen_words.specs.declared.declaration.Declaration.{Declaration}
+use Rattle.scen_words.specs.declared.declaration.Declaration.TheVariants.{File}
 use Rattle.scen_text.specs.declared.scenario.Phase.{Phase}
 use Rattle.scen_text.specs.declared.scenario.Scenario.{Scenario}
 use Rattle.scen_text.specs.declared.scenario.Script.{Script}
-use Rattle.scen_text.specs.Limits.{command_limit}
+use Rattle.scen_words.specs.declared.limits.TheConstants.{MAX_COMMANDS}
 
 -- a run on one file: the places of its ring, the name of its device, and all commands of its one actor
 pub record OneFile : Type 0 where
@@ -50,7 +50,7 @@ are_steps cs = list_all is_step cs
 abbrev pub is_run : List Command → Bool
 is_run [] = false
 is_run (c ∷ []) = false
-is_run (c ∷ d ∷ ds) = is_attach c && are_steps (d ∷ ds) && nat_le (length ds) command_limit
+is_run (c ∷ d ∷ ds) = is_attach c && are_steps (d ∷ ds) && nat_le (length ds) MAX_COMMANDS
 
 abbrev pub commands_of_scripts : List Script → Option (List Command)
 commands_of_scripts [] = None

@@ -1,16 +1,16 @@
 -- This project's own: the trace and the report of a run on one file, and their texts.
 use Rattle.std.specs.Prelude.{ℕ, ◌+◌, Bool, true, false, List, [], ◌∷◌, ◌++◌, length, count_by, codes}
 use Rattle.std.specs.Fmt.{decimal}
-use Rattle.scen_text.specs.declared.command.Command.{Command}
+use Rattle.scen_words.specs.declared.command.Command.{Command}
 use Rattle.tap_top.specs.OneFile.{OneFile}
-use Rattle.scen_text.specs.declared.trace.Answer.{Answer}
-use Rattle.scen_text.specs.declared.trace.Answer.TheVariants.{Version, Bad, Placed, Dropped, Read, Again}
-use Rattle.scen_text.specs.declared.trace.AnswerLine.{AnswerLine}
-use Rattle.scen_text.specs.declared.trace.OpText.TheVariants.{SetIff}
-use Rattle.scen_text.specs.declared.trace.PlaceLine.{PlaceLine}
-use Rattle.scen_text.specs.declared.trace.Trace.{Trace}
-use Rattle.scen_text.specs.Field.{text}
-use Rattle.scen_text.specs.TraceText.{trace_text}
+use Rattle.trace_text.specs.declared.trace.Answer.{Answer}
+use Rattle.trace_text.specs.declared.trace.Answer.TheVariants.{Version, Bad, Placed, Dropped, Read, Again}
+use Rattle.trace_text.specs.declared.trace.AnswerLine.{AnswerLine}
+use Rattle.trace_text.specs.declared.trace.OpText.TheVariants.{SetIff}
+use Rattle.trace_text.specs.declared.trace.PlaceLine.{PlaceLine}
+use Rattle.trace_text.specs.declared.trace.Trace.{Trace}
+use Rattle.scen_words.specs.Field.{text}
+use Rattle.trace_text.specs.TraceText.{trace_text}
 use Rattle.tap_top.specs.Run.{Entry, answers, line_of, reads, waiting}
 
 -- ---- the run

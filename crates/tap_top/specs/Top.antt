@@ -3,37 +3,32 @@ use Rattle.std.specs.Prelude.{◌≡◌, ℕ, ◌+◌, ◌<◌, ◌≤◌, ◌�
 use Rattle.std.specs.Fmt.{decimal}
 use Rattle.std.specs.Io.KnownBytes.{Appends, Consumes, IsAtEnd}
 use Rattle.scen_text.specs.declared.fault.ScenFault.{ScenFault}
-use Rattle.scen_text.specs.declared.fault.Why.{Why}
-use Rattle.scen_text.specs.declared.fault.Why.TheVariants as why
 use Rattle.scen_text.specs.declared.scenario.Phase.{Phase}
 use Rattle.scen_text.specs.declared.scenario.Scenario.{Scenario}
-use Rattle.scen_text.specs.Field.{line}
-use Rattle.scen_text.specs.Why.{why_number}
-use Rattle.scen_text.specs.Limits.{byte_limit}
+use Rattle.scen_words.specs.Field.{line}
+use Rattle.scen_words.specs.declared.limits.TheConstants.{MAX_BYTES}
+use Rattle.scen_text.specs.Refused.{refused_fields}
 use Rattle.scen_text.specs.Scenario.{IsRefusal, Stands}
 use Rattle.scen_text.specs.ScenarioText.{scenario_text}
+use Rattle.scen_gen.specs.Generated.{generated}
 use Rattle.tap_outside.specs.Ends.{one_more}
 use Rattle.tap_top.specs.Headline.{InOrder, OneFate}
 use Rattle.tap_top.specs.OneFile.{OneFile, is_empty, one_file_of}
 use Rattle.tap_top.specs.Output.{empty_output, output_of}
-use Rattle.ebpf_code.specs.Faults.{number}
-use Rattle.guest_mem.specs.Regions.{number_of_fault}
-use Rattle.tap_top.specs.declared.refusal.Further.{Further}
-use Rattle.tap_top.specs.declared.refusal.Further.TheVariants.{Nothing, Fault, Place}
 use Rattle.tap_words.specs.Words.{asks}
 use Rattle.tap_words.specs.declared.request.Request.{Request}
 use Rattle.tap_words.specs.declared.request.Request.TheVariants.{Check, Plain, Live, Audit, Gen, Upgrade}
 
 -- ---- the words
 
--- What is asked for is built: a check, an upgrade and a run on one thread, but not its report in JSON; nor a run on
--- many threads, nor the judge, nor the generator.
+-- What is asked for is built: a check, an upgrade, the generator and a run on one thread, but not its report in JSON; nor
+-- a run on many threads, nor the judge.
 abbrev pub is_built : Request → Bool
 is_built Check = true
 is_built (Plain seed json) = not json
 is_built (Live json) = false
 is_built Audit = false
-is_built (Gen count) = false
+is_built (Gen count) = true
 is_built Upgrade = true
 
 abbrev pub built : Option Request → Option Request
@@ -44,29 +39,25 @@ built (Some request) = if is_built request then Some request else None
 abbrev pub served : List (List ℕ) → Option Request
 served words = built (asks words)
 
+-- whether a request reads a scenario: all but the generator's
+abbrev pub reads : Request → Bool
+reads (Gen count) = false
+reads request = true
+
+-- whether what is served reads one; for other words nothing is read
+abbrev pub reads_input : Option Request → Bool
+reads_input None = false
+reads_input (Some request) = reads request
+
 -- ---- the lines of a refusal
 
 abbrev pub usage_line : List ℕ
 usage_line =
     codes "usage: tapsim check | plain [--seed N] [--json] | live [--json] | audit | gen N | upgrade" ++ 10 ∷ []
 
--- the further numbers of a refusal: which region fault; which fault of a program, and its place
-abbrev pub further_of : Why → Further
-further_of (why.Region fault) = Fault (number_of_fault fault)
-further_of (why.Program fault) = Place (number fault.why) fault.place
-further_of other = Nothing
-
-abbrev pub further_fields : Further → List (List ℕ)
-further_fields Nothing = []
-further_fields (Fault n) = decimal n ∷ []
-further_fields (Place n place) = decimal n ∷ decimal place ∷ []
-
 -- `refused LINE WHY`, and the further numbers
-unfoldable pub refusal_with : ℕ → ℕ → Further → List ℕ
-refusal_with at why further = line (codes "refused" ∷ decimal at ∷ decimal why ∷ further_fields further)
-
 abbrev pub refusal_line : ScenFault → List ℕ
-refusal_line fault = refusal_with fault.line (why_number fault.why) (further_of fault.why)
+refusal_line fault = line (refused_fields fault)
 
 -- `refused 0 15`, this program's own: a good scenario that isn't run so far
 unfoldable pub not_built_line : List ℕ
@@ -108,18 +99,24 @@ abbrev pub status_for : Request → Scenario → ℕ
 status_for (Plain seed json) s = plain_status (one_file_of s) (is_empty s)
 status_for other s = 0
 
+-- the text of the scenario that is made for a number of sends
+abbrev pub made_text : ℕ → List ℕ
+made_text count = scenario_text (generated count)
+
 -- the headline: in a run on one file each accepted frame has one fate, and frames leave in the order placed
 abbrev pub Headline : Scenario → Type 0
 Headline s = (file : OneFile) → one_file_of s ≡ Some file → OneFate file × InOrder file
 
 -- ---- what is wanted
 
--- what is wanted of an input, with its status: of a good scenario, or at 2 the line of the first refusal
+-- what is wanted of an input, with its status: of a good scenario, or at 2 the line of the first refusal; or the text of
+-- the generator, whatever the input
 pub data IsReply (request : Request) (input : List ℕ) (status : ℕ) (text : List ℕ) : Type 0 where
-  Good : (s : Scenario) → Stands input s → Headline s → text ≡ text_for request s → status ≡ status_for request s
+  Good : reads request ≡ true → (s : Scenario) → Stands input s → Headline s → text ≡ text_for request s
+      → status ≡ status_for request s → IsReply request input status text
+  Refused : reads request ≡ true → (fault : ScenFault) → IsRefusal input fault → text ≡ refusal_line fault → status ≡ 2
       → IsReply request input status text
-  Refused : (fault : ScenFault) → IsRefusal input fault → text ≡ refusal_line fault → status ≡ 2
-      → IsReply request input status text
+  Made : (count : ℕ) → request ≡ Gen count → text ≡ made_text count → status ≡ 0 → IsReply request input status text
 
 -- what is wanted for words and an input: the usage line at 1 for other words, or the reply
 pub data IsWanted (words : List (List ℕ)) (input : List ℕ) (status : ℕ) (text : List ℕ) : Type 0 where
@@ -143,18 +140,21 @@ source_between left left_now faults faults_now =
 -- at most one byte more than the limit was taken
 pub record TakesToLimit (source : Source) (bytes : List ℕ) : Type 0 where
   pub taken : Consumes source.left source.left_now bytes
-  pub few : length bytes ≤ byte_limit + 1
+  pub few : length bytes ≤ MAX_BYTES + 1
 
 -- all of the input was taken, or its front, where this is longer than the limit
 pub record TakesInput (source : Source) (input : List ℕ) : Type 0 where
   pub to_limit : TakesToLimit source input
-  pub whole : IsAtEnd source.left_now ⊎ (byte_limit < length input)
+  pub whole : IsAtEnd source.left_now ⊎ (MAX_BYTES < length input)
 
--- what the words have read: nothing, where they ask for no command, and the source is untouched; or the input
+-- what the words have read: nothing, where what is served reads nothing, and the source is untouched; or the input
 pub data Reads (words : List (List ℕ)) (source : Source) (untouched : Type 0) (input : List ℕ) : Type 0 where
-  Untouched : served words ≡ None → untouched → Reads words source untouched input
-  Input : (request : Request) → served words ≡ Some request → TakesInput source input
-      → Reads words source untouched input
+  Untouched : reads_input (served words) ≡ false → untouched → Reads words source untouched input
+  Input : reads_input (served words) ≡ true → TakesInput source input → Reads words source untouched input
+
+-- the source tells this input, where it is read
+abbrev pub Tells : List (List ℕ) → Source → List ℕ → Type 0
+Tells words source input = reads_input (served words) ≡ true → source.left ≡ Some input
 
 -- ---- the sink
 
@@ -204,8 +204,8 @@ pub record Answers (words : List (List ℕ)) (source : Source) (untouched : Type
   pub write : written text
 
 -- What a call of the program did, by its status. `untouched` and `silent` say that source and sink are the values that
--- they were, `tame` and `reliable` that they don't fail. Where the source tells its bytes, 0 and 2 come exactly where
--- they are wanted.
+-- they were, `tame` and `reliable` that they don't fail. Where the source tells the bytes that are read, 0 and 2 come
+-- exactly where they are wanted.
 pub record Ended (words : List (List ℕ)) (source : Source) (sink : Sink)
     (untouched silent tame reliable : Type 0) (status : ℕ) : Type 0 where
   -- 0, done: all of a wanted text was written
@@ -215,7 +215,7 @@ pub record Ended (words : List (List ℕ)) (source : Source) (sink : Sink)
   pub usage_only : (served words ≡ None) → (status ≡ 1) ⊎ (status ≡ 5)
   -- 2, refused: the line of the first refusal is written
   pub refused : status ≡ 2 → Answers words source untouched 2 (WritesLine sink)
-  pub refused_only : (input text : List ℕ) → source.left ≡ Some input → IsWanted words input 2 text
+  pub refused_only : (input text : List ℕ) → Tells words source input → IsWanted words input 2 text
       → (status ≡ 2) ⊎ ((status ≡ 3) ⊎ (status ≡ 5))
   -- 3, the source failed: exactly where a read failed, which ends the reading; nothing is written
   pub source_failed : status ≡ 3 → (source.faults_now ≡ one_more source.faults) × silent
@@ -228,9 +228,11 @@ pub record Ended (words : List (List ℕ)) (source : Source) (sink : Sink)
   pub out_of_memory : status ≡ 5 → silent ⊎ ((wanted : ℕ) × Answers words source untouched wanted (Stops sink))
   -- no other
   pub statuses : status ≤ 5
+  -- at every status: where nothing is to be read, nothing is, and no read fails
+  pub unread : reads_input (served words) ≡ false → untouched × (status ≡ 3 → ⊥)
   -- at every status: at most one byte more than the limit is taken
   pub taken : (bytes : List ℕ) × TakesToLimit source bytes
   -- what is good is done, where no call fails
-  pub complete : (input text : List ℕ) → source.left ≡ Some input → IsWanted words input 0 text
+  pub complete : (input text : List ℕ) → Tells words source input → IsWanted words input 0 text
       → (source.faults_now ≡ one_more source.faults → ⊥) → (sink.faults_now ≡ one_more sink.faults → ⊥)
       → (status ≡ 0) ⊎ (status ≡ 5)

@@ -7,11 +7,9 @@ ghost use Rattle.tap_top.specs.Course.{ReadFails, ReadsPiece, ReadsWell};
 ghost use Rattle.tap_top.specs.Top.{Breaks, Stops, TakesInput, Writes, sink_between, source_between};
 ghost use Rattle.tap_top.specs.declared.ends.ReadError.TheVariants.{NoMemory, SourceFailed};
 
+use scen_text::MAX_BYTES;
 use std::alloc::{AllocError, Global};
 use tap_outside::{Failed, Sink, SinkErr, Source};
-
-/// The greatest number of bytes of a scenario.
-const LIMIT: usize = 67_108_864;
 
 /// How many bytes are asked for at once.
 const PIECE: usize = 65_536;
@@ -77,8 +75,8 @@ pub fn read_all<S: Source>(alloc: Global, source: &mut S) -> Result<Vec<u8>, Rea
 {
     let mut room = vec![in alloc; 0u8; PIECE]?;
     let mut bytes = Vec::new(alloc);
-    while bytes.len() <= LIMIT {
-        let most = room.len().min(LIMIT + 1 - bytes.len());
+    while bytes.len() <= MAX_BYTES {
+        let most = room.len().min(MAX_BYTES + 1 - bytes.len());
         if read_piece(source, &mut room[..most], &mut bytes)? == 0 {
             return Ok(bytes);
         }

@@ -6,12 +6,12 @@ ghost use Rattle.std.specs.VecDeque.{deque_len};
 use crate::given::given;
 use crate::lines::lines_of;
 use crate::placed::Placed;
-use scen_text::{Answer, Cause, PlaceLine};
 use sqlite_items::Items;
 use std::alloc::{AllocError, AllocFailed, Global};
 use std::collections::VecDeque;
 use std::marker::Model;
 use tap_frame::{BadFrame, Frame, Name, Shape, read_frame};
+use trace_text::{Answer, Cause, PlaceLine};
 
 /// One file with a ring of so many places: the frames that wait in it, the name and the length of each frame
 /// that was placed, and how many of these were read.

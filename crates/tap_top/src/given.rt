@@ -1,13 +1,13 @@
 //! The answer to a read.
 
 ghost use Rattle.std.specs.Prelude.{◌≡◌, IfOk, take};
-ghost use Rattle.scen_text.specs.declared.trace.Answer.TheVariants.{Read as Given};
+ghost use Rattle.trace_text.specs.declared.trace.Answer.TheVariants.{Read as Given};
 ghost use Rattle.tap_frame.specs.Frame.{bytes_of};
 
-use scen_text::Answer;
 use sqlite_items::Items;
 use std::alloc::{AllocError, Global};
 use tap_frame::Frame;
+use trace_text::Answer;
 
 /// Spends the frame that was read from this place, and gives its first bytes in the room.
 pub fn given(alloc: Global, frame: Frame, place: u64, room: u32) -> Result<Answer, AllocError>

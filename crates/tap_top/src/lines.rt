@@ -5,9 +5,9 @@ ghost use Rattle.tap_ledger.specs.declared.fate.Fate.TheVariants as fate;
 ghost use Rattle.tap_top.specs.Engine.{lines_from};
 
 use crate::placed::Placed;
-use scen_text::{Fate, PlaceLine};
 use sqlite_items::Items;
 use std::alloc::{AllocError, Global};
+use trace_text::{Fate, PlaceLine};
 
 fn line_at(place: usize, placed: Placed, read: usize) -> PlaceLine
     ensures { result ≡ record {

@@ -1,21 +1,21 @@
 //! The trace and the report of a run, and their text.
 
 ghost use Rattle.std.specs.Prelude.{◌≡◌, ◌+◌, ◌<◌, ◌^◌, ◌++◌, ◌∷◌, [], List, OnOk, IfOk, string_bytes, option_map, count_by, length};
-ghost use Rattle.scen_text.specs.declared.trace.OpText.TheVariants.{SetIff as Attach};
-ghost use Rattle.scen_text.specs.Field.{line, text};
+ghost use Rattle.trace_text.specs.declared.trace.OpText.TheVariants.{SetIff as Attach};
+ghost use Rattle.scen_words.specs.Field.{line, text};
 ghost use Rattle.tap_top.specs.OneFile.{one_file_of};
 ghost use Rattle.tap_top.specs.Output.{device_fields, file_fields, total_fields, output_with, drops, is_drop, empty_output, output_of, place_lines, report_lines, trace_with};
 ghost use Rattle.tap_top.specs.Run.{Entry, reads, waiting};
 
 use crate::parts::{capacity_in, commands_in, name_in};
 use crate::running::{Outcome, run};
-use scen_text::{
-    Answer, AnswerLine, Command, FilePart, OpLine, OpText, PhasePart, Scenario, Text, Trace,
-    print_trace,
-};
+use scen_text::{Command, Scenario};
 use sqlite_items::Items;
 use std::alloc::{AllocError, Global};
 use std::fmt::Write;
+use trace_text::{
+    Answer, AnswerLine, FilePart, OpLine, OpText, PhasePart, Text, Trace, print_trace,
+};
 
 /// Nothing happened.
 const EMPTY: &str = "taptrace 1\nend\nreport\ntotal accepted 0 waiting 0 delivered 0 discarded 0\n";

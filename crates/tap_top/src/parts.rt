@@ -4,15 +4,12 @@ ghost use Rattle.std.specs.Prelude.{◌≡◌};
 ghost use Rattle.std.specs.Option.{option_copied};
 ghost use Rattle.tap_top.specs.OneFile.{are_steps, capacity_in, commands_in, commands_of_scripts, is_attach, is_bare_send, is_run, is_step, name_in};
 
-use scen_text::{Command, Declaration, Phase, Script};
+use scen_text::{Command, Declaration, MAX_COMMANDS, Phase, Script};
 use tap_frame::Hdr;
 use text_fields::DeviceName;
 
 /// The flags of the attachment: IFF_TAP, IFF_MULTI_QUEUE and IFF_NO_PI.
 const FLAGS: u16 = 0x1102;
-
-/// The most commands of a scenario.
-const MOST_COMMANDS: usize = 200_000;
 
 /// The places of file 0, where it is the only declaration.
 pub fn capacity_in(declarations: &[Declaration]) -> Option<u16>
@@ -79,7 +76,7 @@ fn is_run(commands: &[Command]) -> bool
 {
     match commands {
         [first, _, rest @ ..] => {
-            is_attach(first) & are_steps(&commands[1..]) & (rest.len() <= MOST_COMMANDS)
+            is_attach(first) & are_steps(&commands[1..]) & (rest.len() <= MAX_COMMANDS as usize)
         }
         _ => false,
     }

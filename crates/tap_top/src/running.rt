@@ -6,9 +6,10 @@ ghost use Rattle.tap_top.specs.Output.{place_lines};
 ghost use Rattle.tap_top.specs.Run.{Entry, answer_to, answers, line_after, line_of, reads};
 
 use crate::engine::Engine;
-use scen_text::{Answer, AnswerLine, Command, PlaceLine};
+use scen_text::Command;
 use sqlite_items::Items;
 use std::alloc::{AllocError, Global};
+use trace_text::{Answer, AnswerLine, PlaceLine};
 
 /// What a run did: its answers, the line of its file, and how many frames were read.
 #[derive(Drop)]

@@ -1,14 +1,14 @@
 //! What is written for a good scenario.
 
-ghost use Rattle.std.specs.Prelude.{◌≡◌, ◌+◌, IfOk, string_bytes};
+ghost use Rattle.std.specs.Prelude.{◌≡◌, ◌+◌, ◌≤◌, IfOk, string_bytes};
 ghost use Rattle.tap_top.specs.OneFile.{is_empty, one_file_of};
 ghost use Rattle.tap_top.specs.Output.{empty_output};
 ghost use Rattle.tap_top.specs.Serving.{Serves};
-ghost use Rattle.tap_top.specs.Top.{command_count, count_line, not_built_line, plain_status, plain_text, upgraded};
-ghost use Rattle.scen_text.specs.ScenarioText.{scenario_text};
+ghost use Rattle.tap_top.specs.Top.{command_count, count_line, made_text, not_built_line, plain_status, plain_text};
 
 use crate::output::{empty_output, output_of};
-use scen_text::{Phase, Scenario, print_scenario};
+use scen_gen::generate;
+use scen_text::{Phase, Scenario, print_scenario, upgrade};
 use std::alloc::{AllocError, Global};
 use std::fmt::Write;
 use tap_words::Request;
@@ -48,24 +48,6 @@ fn count_line(alloc: Global, count: usize) -> Result<String, AllocError>
     let mut text = String::new(alloc);
     writeln!(text, "ok {count}")?;
     Ok(text)
-}
-
-/// The same scenario in version 2.
-fn upgraded(scenario: Scenario) -> Scenario
-    ensures { result ≡ upgraded scenario }
-{
-    let Scenario {
-        version: _,
-        declarations,
-        names,
-        phases,
-    } = scenario;
-    Scenario {
-        version: 2,
-        declarations,
-        names,
-        phases,
-    }
 }
 
 fn is_empty(scenario: &Scenario) -> bool
@@ -113,7 +95,7 @@ pub fn serve(alloc: Global, request: Request, scenario: Scenario) -> Result<Repl
         }),
         Request::Upgrade => Ok(Reply {
             status: 0,
-            text: print_scenario(alloc, &upgraded(scenario))?,
+            text: print_scenario(alloc, &upgrade(scenario))?,
         }),
         Request::Plain { .. } => plain(alloc, &scenario),
         Request::Live { .. } | Request::Audit | Request::Gen { .. } => Ok(Reply {
@@ -121,4 +103,13 @@ pub fn serve(alloc: Global, request: Request, scenario: Scenario) -> Result<Repl
             text: String::new(alloc),
         }),
     }
+}
+
+/// The text of the scenario that is made for so many sends.
+pub fn made(alloc: Global, count: u32) -> Result<String, AllocError>
+    requires some { 1 ≤ count }
+    requires most { count ≤ 100000 }
+    ensures { IfOk result (λ text. string_bytes text ≡ made_text count) }
+{
+    print_scenario(alloc, &generate(alloc, count)?)
 }

@@ -1,12 +1,12 @@
 //! The top call.
 
-ghost use Rattle.std.specs.Prelude.{◌≡◌, ℕ, List, map, string_bytes, IfOk};
+ghost use Rattle.std.specs.Prelude.{◌≡◌, ℕ, true, List, Some, map, string_bytes, IfOk};
 ghost use Rattle.tap_top.specs.Course.{Course, IsSent};
-ghost use Rattle.tap_top.specs.Top.{Ended, IsReply, sink_between, source_between};
+ghost use Rattle.tap_top.specs.Top.{Ended, IsReply, reads, served, sink_between, source_between};
 
 use crate::ends::{ReadError, read_all, write_all};
 use crate::refusal::refusal_line;
-use crate::serving::{Reply, serve};
+use crate::serving::{Reply, made, serve};
 use crate::words::served;
 use scen_text::{OrMemory, read_scenario};
 use std::alloc::{AllocError, Global};
@@ -18,6 +18,7 @@ const USAGE: &str =
 
 // The reply to an input, for what is asked.
 fn reply_to(alloc: Global, request: Request, bytes: &[u8]) -> Result<Reply, AllocError>
+    requires { reads request ≡ true }
     ensures { IfOk result (λ reply. IsReply request bytes.now reply.status (string_bytes reply.text)) }
 {
     match read_scenario(alloc, bytes) {
@@ -43,17 +44,14 @@ fn send<K: Sink>(sink: &mut K, text: &str, status: u8) -> u8
     }
 }
 
-fn course<S: Source, K: Sink>(alloc: Global, words: &[String], source: &mut S, sink: &mut K) -> u8
-    ensures { Course (map string_bytes words.now)
+// Reads the input, and writes the reply to it.
+fn replied<S: Source, K: Sink>(alloc: Global, request: Request, source: &mut S, sink: &mut K) -> u8
+    requires { reads request ≡ true }
+    ensures { (words : List (List ℕ)) → served words ≡ Some request → Course words
         (source_between (S.left source.old) (S.left source.new) (S.faults source.old) (S.faults source.new))
         (sink_between (K.written sink.old) (K.written sink.new) (K.faults sink.old) (K.faults sink.new))
         (source.new ≡ source.old) (sink.new ≡ sink.old) (S.ends_well source.old) (K.is_reliable sink.old) result }
 {
-    let request = match served(alloc, words) {
-        Ok(Some(request)) => request,
-        Ok(None) => return send(sink, USAGE, 1),
-        Err(_) => return 5,
-    };
     let bytes = match read_all(alloc, source) {
         Ok(bytes) => bytes,
         Err(ReadError::SourceFailed) => return 3,
@@ -65,12 +63,32 @@ fn course<S: Source, K: Sink>(alloc: Global, words: &[String], source: &mut S, s
     }
 }
 
-/// Runs the program: the words are those after its name, the scenario comes from the source, and all that is
-/// written goes to the sink. It answers the exit status:
+fn course<S: Source, K: Sink>(alloc: Global, words: &[String], source: &mut S, sink: &mut K) -> u8
+    ensures { Course (map string_bytes words.now)
+        (source_between (S.left source.old) (S.left source.new) (S.faults source.old) (S.faults source.new))
+        (sink_between (K.written sink.old) (K.written sink.new) (K.faults sink.old) (K.faults sink.new))
+        (source.new ≡ source.old) (sink.new ≡ sink.old) (S.ends_well source.old) (K.is_reliable sink.old) result }
+{
+    let request = match served(alloc, words) {
+        Ok(Some(request)) => request,
+        Ok(None) => return send(sink, USAGE, 1),
+        Err(_) => return 5,
+    };
+    match request {
+        Request::Gen { count } => match made(alloc, count) {
+            Ok(text) => send(sink, text.as_str(), 0),
+            Err(_) => 5,
+        },
+        request => replied(alloc, request, source, sink),
+    }
+}
+
+/// Runs the program: the words are those after its name, the scenario comes from the source, which `gen` doesn't read,
+/// and all that is written goes to the sink. It answers the exit status:
 ///
 /// | status | where | written |
 /// |---|---|---|
-/// | 0 | done | the trace, then the report |
+/// | 0 | done | what is asked for: of a run the trace, then the report |
 /// | 1 | the words are in no row of the table, or what they ask for isn't built | the usage line |
 /// | 2 | the scenario is refused | `refused LINE WHY` |
 /// | 3 | the source failed | nothing |

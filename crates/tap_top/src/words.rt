@@ -2,22 +2,25 @@
 
 ghost use Rattle.std.specs.Prelude.{◌≡◌, IfOk, map, string_bytes};
 ghost use Rattle.tap_top.specs.Top.{built, is_built, served};
+ghost use Rattle.tap_words.specs.Words.{CountFits};
 
 use std::alloc::{AllocError, Global};
-use tap_words::{Request, request_of};
+use tap_words::{Request, count_law, request_of};
 
 fn is_built(request: &Request) -> bool
     ensures { result ≡ is_built request.now }
 {
     match request {
-        Request::Check | Request::Upgrade => true,
+        Request::Check | Request::Upgrade | Request::Gen { .. } => true,
         Request::Plain { json, .. } => !*json,
-        Request::Live { .. } | Request::Audit | Request::Gen { .. } => false,
+        Request::Live { .. } | Request::Audit => false,
     }
 }
 
 fn built(request: Option<Request>) -> Option<Request>
-    ensures { result ≡ built request }
+    requires { CountFits request }
+    ensures value { result ≡ built request }
+    ensures count { CountFits result }
 {
     match request {
         Some(request) => {
@@ -33,7 +36,9 @@ fn built(request: Option<Request>) -> Option<Request>
 
 /// What the words ask for, where it is built.
 pub fn served(alloc: Global, words: &[String]) -> Result<Option<Request>, AllocError>
-    ensures { IfOk result (λ request. request ≡ served (map string_bytes words.now)) }
+    ensures value { IfOk result (λ request. request ≡ served (map string_bytes words.now)) }
+    ensures count { IfOk result CountFits }
 {
+    count_law();
     Ok(built(request_of(alloc, words)?))
 }

@@ -1,5 +1,5 @@
 -- This project's own: the words of the command line, as `clap` reads them, and the table of commands.
-use Rattle.std.specs.Prelude.{ℕ, Bool, true, false, not, ◌&&◌, if◌then◌else◌, List, [], ◌∷◌, codes, is_some, unwrap_or, Option, Some, None, option_map, option_and_then}
+use Rattle.std.specs.Prelude.{ℕ, ◌≤◌, Bool, true, false, not, ◌&&◌, if◌then◌else◌, List, [], ◌∷◌, codes, is_some, unwrap_or, Option, Some, None, option_map, option_and_then}
 use Rattle.std.specs.Str.{bytes_eq}
 use Rattle.clap.specs.Words.{App, Kinds, Row, Rule, Text, all_of, fault_of, first_of, matches_of, new_app, new_rule, with_rule}
 use Rattle.clap.specs.Simple.{on_top}
@@ -94,3 +94,11 @@ asked_by (word ∷ number ∷ more ∷ rest) seed json = None
 -- what the words ask for, or none
 abbrev pub asks : List Text → Option Request
 asks words = option_and_then (λ g. asked_by g.plain g.seed g.json) (given words)
+
+-- a number of sends to be generated is 1 to 100,000
+abbrev pub CountFits : Option Request → Type 0
+CountFits (Some (Gen count)) = (1 ≤ count) × (count ≤ 100000)
+CountFits request = Unit {0}
+
+abbrev pub CountsFit : Type 0
+CountsFit = (words : List Text) → CountFits (asks words)

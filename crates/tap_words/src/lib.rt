@@ -12,6 +12,6 @@ mod request;
 mod tests;
 mod words;
 
-pub use laws::examples;
+pub use laws::{count_law, examples};
 pub use request::Request;
 pub use words::request_of;

@@ -1,5 +1,4 @@
-use Rattle.std.proofs.Common.{[], refl, sym, ◌∙◌}
-use Rattle.scen_text.proofs.Lines.{heard_all, heard_error, heard_step, room_next, shorter}
+use Rattle.scen_text.proofs.Lines.{heard_all, heard_error, heard_step, room_next}
 use Rattle.scen_text.proofs.reading.read_lines.Goals as goal
 
 pub lines-preserved : goal.lines-preserved

@@ -1,6 +1,6 @@
 use Rattle.std.proofs.Common.{◌+◌, ◌<◌, ◌^◌, List, length}
 use Rattle.std.specs.Option.{option_copied}
-use Rattle.scen_text.specs.declared.sentence.Sentence.{Sentence}
+use Rattle.scen_words.specs.declared.sentence.Sentence.{Sentence}
 use Rattle.scen_text.proofs.Lines.{Heard, rest_of}
 use Rattle.scen_text.proofs.reading.read_lines.Given as goal
 

@@ -1,5 +1,4 @@
-use Rattle.std.proofs.Common.{◌≡◌, ◌∷◌, [], refl, sym, ◌∙◌}
-use Rattle.text_fields.specs.Lines.{lines_of}
+use Rattle.std.proofs.Common.{sym, ◌∙◌}
 use Rattle.scen_text.proofs.Whole.{bad_version, few_lines, found, no_line, refused, too_long}
 use Rattle.scen_text.proofs.reading.read_scenario.Goals as goal
 

@@ -1,7 +1,7 @@
 use Rattle.std.proofs.Common.{string_bytes}
-use Rattle.scen_text.specs.Commands.{command_word}
-use Rattle.scen_text.specs.ScenarioText.{command_fields}
-use Rattle.scen_text.specs.Words.{command_spelling}
+use Rattle.scen_words.specs.Commands.{command_word}
+use Rattle.scen_words.specs.Rows.{command_fields}
+use Rattle.scen_words.specs.Words.{command_spelling}
 use Rattle.scen_text.proofs.Spaced.{actor_written}
 use Rattle.scen_text.proofs.writing.put_actor.Goals as goal
 

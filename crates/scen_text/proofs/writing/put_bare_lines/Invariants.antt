@@ -1,5 +1,5 @@
 use Rattle.std.proofs.Common.{◌≡◌, ◌++◌, take, map, string_bytes}
-use Rattle.scen_text.specs.Field.{text}
+use Rattle.scen_words.specs.Field.{text}
 use Rattle.scen_text.specs.ScenarioText.{bare_row}
 use Rattle.scen_text.proofs.writing.put_bare_lines.Given as goal
 

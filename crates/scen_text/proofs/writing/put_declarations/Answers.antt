@@ -1,4 +1,4 @@
-use Rattle.scen_text.specs.ScenarioText.{declaration_row}
+use Rattle.scen_words.specs.Rows.{declaration_row}
 use Rattle.scen_text.proofs.Loops.{text_more}
 use Rattle.scen_text.proofs.writing.put_declarations.Goals as goal
 

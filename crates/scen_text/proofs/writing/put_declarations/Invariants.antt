@@ -1,6 +1,6 @@
 use Rattle.std.proofs.Common.{◌≡◌, ◌++◌, take, map, string_bytes}
-use Rattle.scen_text.specs.Field.{text}
-use Rattle.scen_text.specs.ScenarioText.{declaration_row}
+use Rattle.scen_words.specs.Field.{text}
+use Rattle.scen_words.specs.Rows.{declaration_row}
 use Rattle.scen_text.proofs.writing.put_declarations.Given as goal
 
 abbrev pub invariant-loop-declaration : goal.invariant-loop-declaration

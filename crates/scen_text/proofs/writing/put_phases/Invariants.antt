@@ -1,5 +1,5 @@
 use Rattle.std.proofs.Common.{◌≡◌, ◌++◌, false, take, string_bytes}
-use Rattle.scen_text.specs.Field.{text}
+use Rattle.scen_words.specs.Field.{text}
 use Rattle.scen_text.specs.ScenarioText.{phases_rows}
 use Rattle.scen_text.proofs.PhaseRows.{bare_after}
 use Rattle.scen_text.proofs.writing.put_phases.Given as goal

@@ -1,5 +1,5 @@
 use Rattle.std.proofs.Common.{◌≡◌, ◌+◌, ◌-◌, vec_len}
-use Rattle.scen_text.specs.Limits.{byte_limit}
+use Rattle.scen_words.specs.declared.limits.TheConstants.{MAX_BYTES}
 use Rattle.tap_top.specs.Course.{ReadsWell}
 use Rattle.tap_top.proofs.ends.read_all.Given as goal
 
@@ -14,4 +14,4 @@ invariant-loop-room g l =
     }
 
 abbrev pub decreases-loop-room : goal.decreases-loop-room
-decreases-loop-room g l = byte_limit + 1 - vec_len l.bytes
+decreases-loop-room g l = MAX_BYTES + 1 - vec_len l.bytes

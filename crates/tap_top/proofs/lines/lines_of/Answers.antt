@@ -1,5 +1,5 @@
 use Rattle.std.proofs.Common.{[], ◌∷◌, ◌++◌, refl, ap, ◌∙◌}
-use Rattle.scen_text.specs.declared.trace.PlaceLine.{PlaceLine}
+use Rattle.trace_text.specs.declared.trace.PlaceLine.{PlaceLine}
 use Rattle.tap_top.proofs.Kept.{lines_more}
 use Rattle.tap_top.proofs.lines.lines_of.Goals as goal
 

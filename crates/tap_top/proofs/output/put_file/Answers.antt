@@ -1,5 +1,5 @@
 use Rattle.std.proofs.Common.{append_assoc}
-use Rattle.scen_text.specs.Field.{line}
+use Rattle.scen_words.specs.Field.{line}
 use Rattle.tap_top.specs.Output.{file_fields}
 use Rattle.tap_top.proofs.Written.{last_piece}
 use Rattle.tap_top.proofs.output.put_file.Goals as goal

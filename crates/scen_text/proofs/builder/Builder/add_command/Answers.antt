@@ -1,4 +1,3 @@
-use Rattle.std.proofs.Common.{refl}
 use Rattle.scen_text.proofs.Steps.{shown_line}
 use Rattle.scen_text.proofs.builder.Builder.add_command.Goals as goal
 

@@ -1,4 +1,4 @@
-use Rattle.std.proofs.Common.{◌≡◌, true, false, ap, refl, ◌∙◌}
+use Rattle.std.proofs.Common.{◌≡◌, true, false, ap}
 use Rattle.std.proofs.lemmas.List.{append-nil}
 use Rattle.scen_text.specs.Before.{Before}
 use Rattle.scen_text.specs.Building.{shown, standing}

@@ -1,4 +1,4 @@
-use Rattle.std.proofs.Common.{[], ap, refl}
+use Rattle.std.proofs.Common.{refl}
 use Rattle.scen_text.specs.Before.{command_count, declarations_of, is_started, names_of, phases_of, place_of, turn_count}
 use Rattle.scen_text.proofs.builder.Builder.new.Goals as goal
 

@@ -1,10 +1,9 @@
-use Rattle.std.proofs.Common.{◌≡◌, ◌+◌, ◌<◌, ◌≤◌, true, false, ◌&&◌, ◌||◌, ap, refl, sym, ◌∙◌}
+use Rattle.std.proofs.Common.{◌≡◌, true, false, ◌&&◌, ap, sym, ◌∙◌}
 use Rattle.std.specs.Option.{option_copied}
 use Rattle.scen_text.specs.Before.{number_for}
 use Rattle.scen_text.specs.Building.{standing, with_command}
-use Rattle.scen_text.specs.Commands.{command_of, commanded_name}
-use Rattle.scen_text.specs.Lines.{turns_of}
-use Rattle.scen_text.specs.Refusals.{is_block, is_misplaced, is_unknown, passes_limit, passes_names}
+use Rattle.scen_words.specs.Commands.{command_of}
+use Rattle.scen_text.specs.Refusals.{is_block, is_misplaced, is_unknown, passes_limit}
 use Rattle.scen_text.proofs.Steps.{command_good, command_in, either_left, either_right, hears_command, in_limit, limited, misplaced, neither, unknown}
 use Rattle.scen_text.proofs.builder.Builder.order.Goals as goal
 

@@ -1,6 +1,0 @@
-use Rattle.scen_text.specs.TraceText.{op_line}
-use Rattle.scen_text.proofs.Loops.{text_more}
-use Rattle.scen_text.proofs.printing.put_ops.Goals as goal
-
-pub loop-op-preserved : goal.loop-op-preserved
-loop-op-preserved c = text_more op_line _ _ _ c.args.ops.now c.loop-op.op-index c.op-item.result _ c.loop-op-test.true c.op-item.is c.loop-op.invariant c.in_ok-put_op.ensures

@@ -1,7 +1,0 @@
-use Rattle.std.proofs.Common.{◌≡◌, ◌++◌, take, map, string_bytes}
-use Rattle.scen_text.specs.Field.{text}
-use Rattle.scen_text.specs.TraceText.{op_line}
-use Rattle.scen_text.proofs.printing.put_ops.Given as goal
-
-abbrev pub invariant-loop-op : goal.invariant-loop-op
-invariant-loop-op l = string_bytes l.out ≡ string_bytes l.fn.out ++ text (map op_line (take l.op-index l.ops))

@@ -1,7 +1,0 @@
-use Rattle.std.proofs.Common.{refl}
-use Rattle.scen_text.specs.TraceText.{place_line}
-use Rattle.scen_text.proofs.Loops.{text_more}
-use Rattle.scen_text.proofs.printing.put_places.Goals as goal
-
-pub loop-place-preserved : goal.loop-place-preserved
-loop-place-preserved c = text_more place_line _ _ _ c.args.places.now c.loop-place.place-index _ _ c.loop-place-test.true refl c.loop-place.invariant c.in_ok-put_place.ensures

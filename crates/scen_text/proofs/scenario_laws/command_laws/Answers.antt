@@ -1,5 +1,0 @@
-use Rattle.scen_text.proofs.Kept.{values_kept, words_kept}
-use Rattle.scen_text.proofs.scenario_laws.command_laws.Goals as goal
-
-pub returns : goal.returns
-returns c = record { words = words_kept; values = values_kept }

@@ -1,0 +1,5 @@
+pub mod Declared
+pub mod Fitting
+pub mod Kept
+pub mod Rows
+pub mod Spaced

@@ -1,0 +1,10 @@
+pub mod Commands
+pub mod Field
+pub mod Gives
+pub mod Kinds
+pub mod Laws
+pub mod Rows
+pub mod Sentences
+pub mod Shown
+pub mod Why
+pub mod Words
