@@ -17,7 +17,7 @@ pub data Change : Type 0 where
   Leaves : Option ℕ → Fate → Change -- the batch's front leaves with a fate, as it is or from a worker's hand
   Shuts : Change -- the gate is shut
   Reopens : Change -- and opened under the next epoch
-  Resizes : ℕ → Change -- the ring has another capacity
+  Sizes : ℕ → Change -- the ring has another capacity
   Cuts : Change -- the ring's last entry is cut
   Owned : Option ℕ → Change -- a vhost's worker owns the file, or none does
 
@@ -116,6 +116,6 @@ changed (PutsBack vhost) f = put_back_by vhost f
 changed (Leaves worker fate) f = left_by worker fate f
 changed Shuts f = shut_now f
 changed Reopens f = reopened f
-changed (Resizes capacity) f = resized capacity f
+changed (Sizes capacity) f = resized capacity f
 changed Cuts f = cut_last f
 changed (Owned owner) f = only_if (is_none f.hand) (record f { owner = owner })

@@ -6,10 +6,10 @@ use Rattle.tap_frame.specs.declared.name.Name.{Name}
 use Rattle.tap_steer.specs.declared.operation.Op.{Op}
 use Rattle.tap_steer.specs.declared.operation.Op.TheVariants as op
 use Rattle.tap_steer.specs.Table.{Table, first}
-use Rattle.scen_text.specs.declared.command.Command.{Command}
-use Rattle.scen_text.specs.declared.command.Command.TheVariants as command
-use Rattle.scen_text.specs.declared.scenario.Declaration.{Declaration}
-use Rattle.scen_text.specs.declared.scenario.Declaration.TheVariants as declaration
+use Rattle.scen_words.specs.declared.command.Command.{Command}
+use Rattle.scen_words.specs.declared.command.Command.TheVariants as command
+use Rattle.scen_words.specs.declared.declaration.Declaration.{Declaration}
+use Rattle.scen_words.specs.declared.declaration.Declaration.TheVariants as declaration
 use Rattle.scen_text.specs.declared.scenario.Line.{Line}
 use Rattle.scen_text.specs.declared.scenario.Phase.{Phase}
 use Rattle.scen_text.specs.declared.scenario.Scenario.{Scenario}

@@ -1,6 +1,6 @@
 -- This project's own: what one event does to the world; none where it isn't allowed.
 use Rattle.std.specs.Prelude.{ℕ, ◌==◌, ◌&&◌, Bool, if◌then◌else◌, List, slice_get, Option, Some, None, is_some}
-use Rattle.scen_text.specs.declared.command.Command.{Command}
+use Rattle.scen_words.specs.declared.command.Command.{Command}
 use Rattle.tap_world.specs.declared.event.Event.{Event}
 use Rattle.tap_world.specs.declared.event.EventKind.{EventKind}
 use Rattle.tap_world.specs.declared.event.EventKind.TheVariants as event

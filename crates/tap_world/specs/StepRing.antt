@@ -16,8 +16,7 @@ use Rattle.tap_world.specs.Frames.{FrameText, Front, text_in}
 use Rattle.tap_world.specs.Setup.{Setup, frame_of}
 use Rattle.tap_world.specs.Line.{Entry, File, claimed, first_that, freed, front_place, has_batch, in_batch, in_ring, is_full, is_gone, is_over, is_spent, last_that}
 use Rattle.tap_world.specs.LineSteps.{ready_front}
-use Rattle.tap_world.specs.LineSteps.Change.{Claims, Cuts, Leaves, Moves, Puts, Reopens, Shuts}
-use Rattle.tap_world.specs.LineSteps.Change as change
+use Rattle.tap_world.specs.LineSteps.Change.{Claims, Cuts, Leaves, Moves, Puts, Reopens, Shuts, Sizes}
 use Rattle.tap_world.specs.World.{Actor, Doing, World, holds_writer, name_of}
 use Rattle.tap_world.specs.World.Doing.{Hosts, Learns, Opened, Opens, Placed, Purges, Reads, Resizes, Routed, Shrinks, Withdrawn}
 use Rattle.tap_world.specs.Effect.{Effect, Onward, on_file, only}
@@ -80,7 +79,7 @@ reopens w seen doing = None
 abbrev pub resizes : World → ℕ → Doing → Option Effect
 resizes w seen (Resizes file capacity) = do
   f ← at w.files file
-  Some (on_file file (change.Resizes capacity) (Goes seen (Shrinks file (claimed f) 0) (found.Claimed (claimed f))) w)
+  Some (on_file file (Sizes capacity) (Goes seen (Shrinks file (claimed f) 0) (found.Claimed (claimed f))) w)
 resizes w seen doing = None
 
 -- the name of the entry at a place of the list
@@ -113,7 +112,7 @@ moves w (Purges file version) = moves_in w file
 moves w doing = None
 
 -- what a read gives of the batch's front: its name, its place, and its bytes in the room
-abbrev pub read_told : Setup → File → Front → ℕ → ℕ → Entry → Onward
+abbrev pub read_told : Setup → File → Front → ℕ → ℕ → ℕ → Entry → Onward
 read_told s f front room seen i e =
     let text : List ℕ = option_map_or (λ x. text_in front x room) (frame_of s e.name e.len) [] in
     Ends seen (answer.Read e.name (f.first + i) text)

@@ -19,8 +19,8 @@ use Rattle.tap_steer.specs.declared.selection.Select.TheVariants as select
 use Rattle.tap_steer.specs.Table.{Table, file_at, is_set}
 use Rattle.tap_steer.specs.Rules.{refuse}
 use Rattle.tap_steer.specs.Select as steer
-use Rattle.scen_text.specs.declared.command.Command.{Command}
-use Rattle.scen_text.specs.declared.command.Command.TheVariants as command
+use Rattle.scen_words.specs.declared.command.Command.{Command}
+use Rattle.scen_words.specs.declared.command.Command.TheVariants as command
 use Rattle.tap_trace.specs.declared.answer.Answer.TheVariants as answer
 use Rattle.tap_trace.specs.declared.causes.TapText.TheVariants.{EBADFD}
 use Rattle.tap_world.specs.declared.event.Found.TheVariants as found
@@ -32,7 +32,7 @@ use Rattle.tap_world.specs.Setup.{Setup, op_of}
 use Rattle.tap_world.specs.Line.{File, claimed, freed, is_over}
 use Rattle.tap_world.specs.World.{Actor, Doing, World, holds_writer, name_of, newest, table}
 use Rattle.tap_world.specs.World.Doing.{Begun, Changes, Hosts, Learns, Opened, Opens, Reads, Resizes, Routed, Shrinks, Withdrawn, Withdraws}
-use Rattle.tap_world.specs.Effect.{Effect, only}
+use Rattle.tap_world.specs.Effect.{Effect, Onward, only}
 use Rattle.tap_world.specs.Effect.Onward.{Ends, Goes}
 
 -- ---- Look, of a control command: the writer is free

@@ -1,5 +1,5 @@
 -- This project's own: what a world holds while a scenario runs.
-use Rattle.std.specs.Prelude.{ℕ, ◌==◌, List, [], ◌∷◌, length, map, take, slice_get, Bool, Option, Some, None, option_map}
+use Rattle.std.specs.Prelude.{ℕ, ◌==◌, List, [], ◌∷◌, length, map, take, slice_get, Bool, false, Option, Some, None, option_map}
 use Rattle.std.specs.Option.{option_map_or}
 use Rattle.tap_frame.specs.declared.name.Name.{Name}
 use Rattle.tap_steer.specs.declared.operation.Op.{Op}
