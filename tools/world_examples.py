@@ -47,13 +47,15 @@ def main():
     uses, names = unfoldables(repo, CRATES)
     uses += ["use Rattle.hex.specs.Hex as hex", "use Rattle.std.specs.Fmt as fmt"]
     names += ["hex.decode_pairs", "hex.encode_with", "fmt.digits"]
-    lines = ["use Rattle.std.specs.Prelude.{◌≡◌, ℕ, refl, Some, None, codes}", "use Rattle.probe.specs.Played.{output}"]
+    lines = ["use Rattle.std.specs.Prelude.{◌≡◌, ℕ, refl, Some, None, codes}", "use Rattle.probe.specs.Played.{output, judgement}"]
     lines += uses
     for e in examples:
         name = "e_" + re.sub(r"\W", "_", "_".join(e.rsplit("/", 2)[1:])[:-3])
         expected = trace_of(e[:-3] + ".out")
         lines += ["", f'pub {name} : output {seed_of(e[:-3] + ".words")} (codes "{literal(open(e).read())}") ≡ Some (codes "{literal(expected)}")',
-                  "unfolding " + " ".join(names), f"{name} = refl"]
+                  "unfolding " + " ".join(names), f"{name} = refl",
+                  "", f'pub {name}_legal : judgement {seed_of(e[:-3] + ".words")} (codes "{literal(open(e).read())}") ≡ Some (codes "legal")',
+                  "unfolding " + " ".join(names), f"{name}_legal = refl"]
     open(out, "w").write("\n".join(lines) + "\n")
 
 

@@ -1,0 +1,13 @@
+pub mod Numbered
+pub mod Same
+pub mod Case
+pub mod Lookups
+pub mod Takes
+pub mod LegalTable
+pub mod LegalAnswers
+pub mod LegalLines
+pub mod LegalFull
+pub mod LegalGone
+pub mod LegalNotReady
+pub mod LegalFates
+pub mod Verdict
