@@ -100,6 +100,20 @@ impl Vq {
         (self.reserved.min(MOST_DONE) - self.done.len()) as u16
     }
 
+    /// How many chains are done and not published.
+    pub fn unpublished(&self) -> u16
+        ensures { result ≡ length self.now.queue.positions.done }
+    {
+        self.done.len() as u16
+    }
+
+    /// How many places for published chains are reserved.
+    pub fn reserved(&self) -> usize
+        ensures { result ≡ self.now.reserved }
+    {
+        self.reserved
+    }
+
     /// Whether nothing is served and not published.
     pub fn is_idle(&self) -> bool
         ensures { IsTrue result ↔ IsIdle self.now.queue.positions }

@@ -1,0 +1,3 @@
+mod Lies
+mod Told
+mod Steady

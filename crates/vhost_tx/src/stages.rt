@@ -1,0 +1,61 @@
+//! What the worker's stage says.
+ghost use Rattle.std.specs.Prelude.{◌≡◌};
+ghost use Rattle.vhost_tx.specs.Worker.{chains_at, holds_at, fault_of, stopped_at, publishes_at, goes_on_at};
+
+use vring_split::RingFault;
+use vring_turns::{End, TxStage};
+
+/// How many chains were fetched and aren't done.
+pub fn chains_at(stage: TxStage) -> u16
+    ensures { result ≡ chains_at stage }
+{
+    match stage {
+        TxStage::Copy | TxStage::NoticesOff { fault: None } => 1,
+        _ => 0,
+    }
+}
+
+/// Whether an accepted frame is still to be given.
+pub fn holds_at(stage: TxStage) -> bool
+    ensures { result ≡ holds_at stage }
+{
+    matches!(stage, TxStage::Give)
+}
+
+// The fault by which an end says that the ring is stopped.
+fn fault_of(end: End) -> Option<RingFault>
+    ensures { result ≡ fault_of end }
+{
+    match end {
+        End::Stopped(fault) => Some(fault),
+        _ => None,
+    }
+}
+
+/// The fault that stopped the ring in this turn.
+pub fn stopped_at(stage: TxStage) -> Option<RingFault>
+    ensures { result ≡ stopped_at stage }
+{
+    match stage {
+        TxStage::NoticesOff { fault } => fault,
+        TxStage::Publish { end: Some(end) } | TxStage::Ended(end) => fault_of(end),
+        _ => None,
+    }
+}
+
+/// Whether something is there to be published.
+pub fn publishes_at(stage: TxStage) -> bool
+    ensures { result ≡ publishes_at stage }
+{
+    matches!(stage, TxStage::Publish { .. })
+}
+
+/// Whether one more packet may come.
+pub fn goes_on_at(stage: TxStage) -> bool
+    ensures { result ≡ goes_on_at stage }
+{
+    !matches!(
+        stage,
+        TxStage::Give | TxStage::Publish { end: Some(_) } | TxStage::Ended(_)
+    )
+}

@@ -1,0 +1,427 @@
+//! What the worker does at each stage.
+ghost use Rattle.std.specs.Prelude.{◌≡◌, ◌≢◌, ◌+◌, ◌<◌, ◌||◌, min, not, [], length, Some, None, IfSome, OnSome, IfNone};
+ghost use Rattle.guest_mem.specs.Memory.{Contents, covers};
+ghost use Rattle.vhost_queue.specs.Positions.{with_done};
+ghost use Rattle.vhost_queue.specs.Queue.{IsGood, room_of};
+ghost use Rattle.vhost_queue.specs.Publication.{noticed_in};
+ghost use Rattle.vring_turns.specs.Ring.{LieIn, noticed, found, joined, told_of};
+ghost use Rattle.vring_turns.specs.TxTurn.{tx_closing, tx_after_packet, tx_after_fetch, tx_after_second, tx_after_notices, tx_fetches, tx_publishes, tx_copies, tx_gives, tx_made, tx_ring, tx_next, tx_step, tx_told, tx_out_of_memory, at_stage};
+ghost use Rattle.vring_turns.specs.Turn.{event_of, IfMore};
+ghost use Rattle.vhost_tx.specs.Worker.{Worker as Seen, IsSteady, Fits, Changes, state_of, out_of_memory, ring_of};
+ghost use Rattle.vhost_tx.specs.Copying.{counting, holding, IsRead};
+
+use crate::gather::{Judged, Reading, read_chain};
+use crate::worker::{TxStep, TxWorker};
+use guest_mem::Memory;
+use tap_frame::{Frame, Name};
+use tap_ledger::{Act, HostIn};
+use vhost_queue::Vq;
+use vring_split::RingFault;
+use vring_turns::{End, TxStage};
+use vring_walk::{Fetched, chains_are_usable, fetch};
+
+// What was read of a chain: its head, for how many bytes it counts, and what its bytes are.
+struct Read {
+    head: u16,
+    counted: u32,
+    judged: Judged,
+}
+
+/// How many chains that are done are published between two packets.
+const PUBLISHES_AT: u16 = 64;
+
+// What a fetch at a position tells.
+fn told_of(position: u16, found: Fetched) -> Act
+    ensures { result ≡ told_of position found }
+{
+    match found {
+        Fetched::Chain { head } => Act::Fetch { position, head },
+        Fetched::Nothing => Act::Nothing,
+        Fetched::Crowded => Act::Crowded,
+        Fetched::Bad(fault) => Act::Halt {
+            fault: fault.number(),
+        },
+    }
+}
+
+// The turn ends: after a publication, where anything is done.
+fn closing(vq: &Vq, end: End) -> TxStage
+    ensures { result ≡ tx_closing end vq.now.queue }
+{
+    if vq.unpublished() == 0 {
+        TxStage::Ended(end)
+    } else {
+        TxStage::Publish { end: Some(end) }
+    }
+}
+
+// Notices are off again: a chain was found, or a fault.
+fn after_notices(vq: &Vq, fault: Option<RingFault>) -> TxStage
+    ensures { result ≡ tx_after_notices vq.now.queue fault }
+{
+    match fault {
+        None => TxStage::Copy,
+        Some(fault) => closing(vq, End::Stopped(fault)),
+    }
+}
+
+impl TxWorker {
+    // A packet is behind it: it did enough, or it publishes, or it goes on.
+    fn after_packet(&self, vq: &Vq) -> TxStage
+        ensures { result ≡ tx_after_packet self.now.turn vq.now.queue }
+    {
+        if self.is_enough() {
+            closing(vq, End::Again)
+        } else if vq.unpublished() >= PUBLISHES_AT {
+            TxStage::Publish { end: None }
+        } else {
+            TxStage::Fetch
+        }
+    }
+
+    // Turns notices on or off, and goes on to a stage.
+    fn notices(&mut self, vq: &mut Vq, mem: &mut Memory, on: bool, stage: TxStage) -> Act
+        requires { IsGood vq.old.queue mem.old }
+        ensures step { Changes (λ s. Some (tx_made (noticed on (tx_ring s) s.memory) stage s))
+            self.old vq.old.queue mem.old self.new vq.new.queue mem.new result }
+        ensures worker { self.new ≡ record self.old { turn = at_stage stage self.old.turn } }
+        ensures queue { vq.new ≡ vq.old }
+        ensures regions { mem.new.regions ≡ mem.old.regions }
+    {
+        vq.notices(mem, on);
+        self.stage = stage;
+        Act::Notices {
+            on,
+            wrote: on || !vq.layout().event,
+        }
+    }
+
+    // Turns notices off again after a second fetch, which found a chain or a fault.
+    fn notices_off(&mut self, vq: &mut Vq, mem: &mut Memory, fault: Option<RingFault>) -> Act
+        requires good { IsGood vq.old.queue mem.old }
+        requires steady { IsSteady self.old vq.old }
+        requires stage { self.old.turn.stage ≡ TxStage.NoticesOff fault }
+        ensures step { Changes (tx_next (TxStage.NoticesOff fault))
+            self.old vq.old.queue mem.old self.new vq.new.queue mem.new result }
+        ensures steady { IsSteady self.new vq.new }
+        ensures chains { self.new.turn.chains ≡ self.old.turn.chains }
+        ensures queue { vq.new ≡ vq.old }
+        ensures regions { mem.new.regions ≡ mem.old.regions }
+    {
+        let stage = after_notices(vq, fault);
+        self.notices(vq, mem, false, stage)
+    }
+
+    // Takes what is at the next position, and goes on to no stage yet.
+    fn find(&mut self, vq: &mut Vq, mem: &Memory) -> Fetched
+        requires good { IsGood vq.old.queue mem.now }
+        requires none { self.old.turn.chains ≡ [] }
+        requires few { vq.old.queue.positions.gathered ≡ 0 }
+        ensures found { result ≡ (found (ring_of self.old vq.old.queue) mem.now).0 }
+        ensures ring { ring_of self.new vq.new.queue
+            ≡ joined result (found (ring_of self.old vq.old.queue) mem.now).1 (ring_of self.old vq.old.queue) }
+        ensures worker { self.new ≡ record self.old {
+          turn = record self.old.turn { chains = self.new.turn.chains };
+          next = vq.new.queue.positions.next;
+        } }
+        ensures reserved { vq.new.reserved ≡ vq.old.reserved }
+        ensures fits { result ≢ Fetched.Crowded }
+        ensures lies { LieIn (covers mem.now.regions) self.new.turn.chains }
+    {
+        chains_are_usable();
+        self.room.clear();
+        let ring = vq.layout();
+        let found = fetch(mem, &ring, vq.position(), &mut self.room);
+        match found {
+            Fetched::Chain { head } => {
+                vq.served();
+                self.head = Some(head);
+            }
+            Fetched::Bad(fault) => vq.stop(fault),
+            Fetched::Nothing | Fetched::Crowded => {}
+        }
+        self.next = vq.position();
+        found
+    }
+
+    // Looks for a chain, and turns notices on where there is none.
+    pub(crate) fn fetch(&mut self, vq: &mut Vq, mem: &Memory) -> Act
+        requires good { IsGood vq.old.queue mem.now }
+        requires steady { IsSteady self.old vq.old }
+        requires stage { self.old.turn.stage ≡ TxStage.Fetch }
+        ensures step { Changes (tx_fetches tx_after_fetch)
+            self.old vq.old.queue mem.now self.new vq.new.queue mem.now result }
+        ensures steady { IsSteady self.new vq.new }
+        ensures lies { LieIn (covers mem.now.regions) self.new.turn.chains }
+        ensures layout { vq.new.queue.layout ≡ vq.old.queue.layout }
+    {
+        let position = vq.position();
+        let found = self.find(vq, mem);
+        self.stage = match found {
+            Fetched::Chain { .. } => TxStage::Copy,
+            Fetched::Nothing => TxStage::NoticesOn,
+            Fetched::Bad(fault) => closing(vq, End::Stopped(fault)),
+            Fetched::Crowded => unreachable!(),
+        };
+        told_of(position, found)
+    }
+
+    // Looks once more, after notices were turned on.
+    pub(crate) fn fetch_again(&mut self, vq: &mut Vq, mem: &Memory) -> Act
+        requires good { IsGood vq.old.queue mem.now }
+        requires steady { IsSteady self.old vq.old }
+        requires stage { self.old.turn.stage ≡ TxStage.FetchAgain }
+        ensures step { Changes (tx_fetches tx_after_second)
+            self.old vq.old.queue mem.now self.new vq.new.queue mem.now result }
+        ensures steady { IsSteady self.new vq.new }
+        ensures lies { LieIn (covers mem.now.regions) self.new.turn.chains }
+        ensures layout { vq.new.queue.layout ≡ vq.old.queue.layout }
+    {
+        let position = vq.position();
+        let found = self.find(vq, mem);
+        self.stage = match found {
+            Fetched::Chain { .. } => TxStage::NoticesOff { fault: None },
+            Fetched::Nothing => closing(vq, End::Idle),
+            Fetched::Bad(fault) => TxStage::NoticesOff { fault: Some(fault) },
+            Fetched::Crowded => unreachable!(),
+        };
+        told_of(position, found)
+    }
+
+    // The chain of this head is done, and counts as a packet of so many bytes.
+    fn finish(&mut self, vq: &mut Vq, head: u16, counted: u32)
+        requires some { vq.old.queue.positions.gathered ≡ 1 }
+        requires room { 0 < room_of vq.old }
+        requires packets { self.old.turn.packets < 256 }
+        requires bytes { self.old.turn.bytes < 524288 }
+        ensures queue { vq.new ≡ record vq.old {
+          queue = record vq.old.queue { positions = with_done head 0 vq.old.queue.positions };
+        } }
+        ensures worker { self.new ≡ record self.old { turn = counting counted self.old.turn } }
+    {
+        vq.done(head, 0);
+        self.head = None;
+        self.packets += 1;
+        self.bytes += u64::from(counted);
+    }
+
+    // The chain is done, and its bytes are no frame.
+    fn refuse(&mut self, vq: &mut Vq, head: u16, counted: u32)
+        requires steady { IsSteady self.old vq.old }
+        requires stage { self.old.turn.stage ≡ TxStage.Copy }
+        ensures queue { vq.new ≡ record vq.old {
+          queue = record vq.old.queue { positions = with_done head 0 vq.old.queue.positions };
+        } }
+        ensures worker { self.new ≡ record self.old {
+          turn =
+              at_stage (tx_after_packet (counting counted self.old.turn) vq.new.queue) (counting counted self.old.turn);
+        } }
+        ensures steady { IsSteady self.new vq.new }
+    {
+        self.finish(vq, head, counted);
+        self.stage = self.after_packet(vq);
+    }
+
+    // The chain is done, and its bytes are a frame, which is kept.
+    fn accept(&mut self, vq: &mut Vq, head: u16, counted: u32, frame: Frame)
+        requires steady { IsSteady self.old vq.old }
+        requires stage { self.old.turn.stage ≡ TxStage.Copy }
+        ensures queue { vq.new ≡ record vq.old {
+          queue = record vq.old.queue { positions = with_done head 0 vq.old.queue.positions };
+        } }
+        ensures worker { self.new ≡ record self.old { turn = holding frame (counting counted self.old.turn) } }
+        ensures steady { IsSteady self.new vq.new }
+    {
+        self.finish(vq, head, counted);
+        if let Some(other) = self.held.replace(frame) {
+            let _ = other.end();
+        }
+        self.accepted += 1;
+        self.stage = TxStage::Give;
+    }
+
+    // Reads the chain that was fetched, and what its bytes spell under a name.
+    fn read(&mut self, mem: &Memory, name: Name) -> Read
+        requires some { length self.old.turn.chains ≡ 1 }
+        requires lies { LieIn (covers mem.now.regions) self.old.turn.chains }
+        ensures read { IsRead self.old.turn mem.now name result.head result.counted result.judged }
+        ensures worker { self.new ≡ self.old }
+    {
+        let head = match self.head {
+            Some(head) => head,
+            None => unreachable!(),
+        };
+        let Reading { counted, judged } = read_chain(
+            self.alloc,
+            mem,
+            self.room.list(),
+            &mut self.buffer,
+            self.hdr,
+            name,
+        );
+        Read {
+            head,
+            counted,
+            judged,
+        }
+    }
+
+    // Gives the frame that it holds to the host.
+    pub(crate) fn give<H: HostIn>(&mut self, vq: &Vq, host: &mut H) -> Act
+        requires steady { IsSteady self.old vq.now }
+        requires stage { self.old.turn.stage ≡ TxStage.Give }
+        requires room { 0 < (H.host host.old).room }
+        ensures step { (m : Contents) → tx_gives self.old.turn.held (state_of self.old vq.now.queue m (H.host host.old))
+            ≡ Some (state_of self.new vq.now.queue m (H.host host.new), result) }
+        ensures steady { IsSteady self.new vq.now }
+        ensures chains { self.new.turn.chains ≡ self.old.turn.chains }
+    {
+        let stage = self.after_packet(vq);
+        match self.held.take() {
+            Some(frame) => {
+                let name = frame.name();
+                host.give(frame);
+                self.stage = stage;
+                Act::Given { name }
+            }
+            None => unreachable!(),
+        }
+    }
+
+    // Publishes what is done, and then goes on or ends.
+    pub(crate) fn publish(&mut self, vq: &mut Vq, mem: &mut Memory, end: Option<End>) -> Act
+        requires good { IsGood vq.old.queue mem.old }
+        requires steady { IsSteady self.old vq.old }
+        requires stage { self.old.turn.stage ≡ TxStage.Publish end }
+        ensures step { Changes (tx_publishes end)
+            self.old vq.old.queue mem.old self.new vq.new.queue mem.new result }
+        ensures steady { IsSteady self.new vq.new }
+        ensures chains { self.new.turn.chains ≡ self.old.turn.chains }
+        ensures layout { vq.new.queue.layout ≡ vq.old.queue.layout }
+        ensures regions { mem.new.regions ≡ mem.old.regions }
+    {
+        let count = vq.unpublished();
+        let call = vq.publish(mem);
+        self.stage = match end {
+            None => TxStage::Fetch,
+            Some(end) => TxStage::Ended(end),
+        };
+        Act::Publish { count, call }
+    }
+
+    // Reads the bytes of the chain: they are a frame, or are refused. It makes nothing where memory ran out.
+    pub(crate) fn copy(&mut self, vq: &mut Vq, mem: &Memory) -> Option<Act>
+        requires steady { IsSteady self.old vq.old }
+        requires stage { self.old.turn.stage ≡ TxStage.Copy }
+        requires lies { LieIn (covers mem.now.regions) self.old.turn.chains }
+        ensures step { IfSome result (Changes (λ s. tx_copies s.turn.chains s)
+            self.old vq.old.queue mem.now self.new vq.new.queue mem.now) }
+        ensures steady { OnSome result (IsSteady self.new vq.new) }
+        ensures layout { vq.new.queue.layout ≡ vq.old.queue.layout }
+        ensures lies { LieIn (covers mem.now.regions) self.new.turn.chains }
+        ensures none { IfNone result (self.new ≡ out_of_memory self.old) }
+        ensures queue { IfNone result (vq.new ≡ vq.old) }
+    {
+        let position = vq.position().wrapping_sub(1);
+        let name = Name {
+            part: self.accepted,
+            ..self.name
+        };
+        let Read {
+            head,
+            counted,
+            judged,
+        } = self.read(mem, name);
+        match judged {
+            Judged::Accepted(frame) => {
+                self.accept(vq, head, counted, frame);
+                Some(Act::Copy { position, name })
+            }
+            Judged::Refused(bad) => {
+                self.refuse(vq, head, counted);
+                Some(Act::Refused { position, bad })
+            }
+            Judged::NoMemory => {
+                self.stage = TxStage::Ended(End::NoMemory);
+                None
+            }
+        }
+    }
+
+    // The event that comes next, or none where memory ran out.
+    fn event<H: HostIn>(&mut self, vq: &mut Vq, mem: &mut Memory, host: &mut H) -> Option<Act>
+        requires fits { Fits self.old vq.old }
+        requires good { IsGood vq.old.queue mem.old }
+        requires lies { LieIn (covers mem.old.regions) self.old.turn.chains }
+        requires room { 0 < (H.host host.old).room }
+        ensures event { IfSome result (λ act. tx_step (state_of self.old vq.old.queue mem.old (H.host host.old))
+            ≡ Some (state_of self.new vq.new.queue mem.new (H.host host.new), act)) }
+        ensures steady { OnSome result (IsSteady self.new vq.new) }
+        ensures none { IfNone result (state_of self.new vq.new.queue mem.new (H.host host.new)
+            ≡ state_of (out_of_memory self.old) vq.old.queue mem.old (H.host host.old)) }
+        ensures reading { IfNone result (self.old.turn.stage ≡ TxStage.Copy) }
+        ensures lies { LieIn (covers mem.new.regions) self.new.turn.chains }
+        ensures layout { vq.new.queue.layout ≡ vq.old.queue.layout }
+        ensures regions { mem.new.regions ≡ mem.old.regions }
+    {
+        match self.stage {
+            TxStage::Begin => Some(self.notices(vq, mem, false, TxStage::Fetch)),
+            TxStage::Fetch => Some(self.fetch(vq, mem)),
+            TxStage::NoticesOn => Some(self.notices(vq, mem, true, TxStage::FetchAgain)),
+            TxStage::FetchAgain => Some(self.fetch_again(vq, mem)),
+            TxStage::NoticesOff { fault } => Some(self.notices_off(vq, mem, fault)),
+            TxStage::Copy => self.copy(vq, mem),
+            TxStage::Give => Some(self.give(vq, host)),
+            TxStage::Publish { end } => Some(self.publish(vq, mem, end)),
+            TxStage::Ended(_) => unreachable!(),
+        }
+    }
+
+    // What a step answers that made an event.
+    fn told(&self, act: Act) -> TxStep
+        ensures { result ≡ tx_told self.now.turn self.now.turn.stage act }
+    {
+        match self.stage {
+            TxStage::Ended(end) => TxStep::Ended {
+                act: Some(act),
+                turn: self.report(end),
+            },
+            _ => TxStep::More(act),
+        }
+    }
+
+    /// Makes the one event that comes next, and tells it.
+    ///
+    /// The turn is over where it tells a report. Then the last event is told with it; where memory ran
+    /// out, at the copy of a chain, none was made, and nothing but the turn changed. A frame that was
+    /// accepted is given in the step after its copy.
+    pub fn step<H: HostIn>(&mut self, vq: &mut Vq, mem: &mut Memory, host: &mut H) -> TxStep
+        requires fits { Fits self.old vq.old }
+        requires good { IsGood vq.old.queue mem.old }
+        requires lies { LieIn (covers mem.old.regions) self.old.turn.chains }
+        requires room { 0 < (H.host host.old).room }
+
+        ensures event { IfSome (event_of result) (λ act.
+            tx_step (state_of self.old vq.old.queue mem.old (H.host host.old))
+            ≡ Some (state_of self.new vq.new.queue mem.new (H.host host.new), act)) }
+        ensures told { IfSome (event_of result) (λ act. result ≡ tx_told self.new.turn self.new.turn.stage act) }
+
+        ensures no_memory { IfNone (event_of result) (state_of self.new vq.new.queue mem.new (H.host host.new)
+            ≡ state_of (out_of_memory self.old) vq.old.queue mem.old (H.host host.old)) }
+        ensures reading { IfNone (event_of result) (self.old.turn.stage ≡ TxStage.Copy) }
+        ensures report { IfNone (event_of result) (result ≡ tx_out_of_memory self.old.turn) }
+
+        ensures fits { IfMore result (Fits self.new vq.new) }
+        ensures good { IsGood vq.new.queue mem.new }
+        ensures lies { LieIn (covers mem.new.regions) self.new.turn.chains }
+        ensures regions { mem.new.regions ≡ mem.old.regions }
+    {
+        match self.event(vq, mem, host) {
+            Some(act) => self.told(act),
+            None => TxStep::Ended {
+                act: None,
+                turn: self.report(End::NoMemory),
+            },
+        }
+    }
+}

@@ -1,0 +1,10 @@
+pub mod Ring
+pub mod ReceiveImage
+pub mod TransmitBytes
+pub mod Turn
+pub mod TxTurn
+pub mod RxTurn
+pub mod Hands
+pub mod Example
+pub mod TxExamples
+pub mod RxExamples

@@ -1,0 +1,23 @@
+-- This project's own, after Linux's vhost_net: how much one turn does, and what it reports.
+use Rattle.std.specs.Prelude.{ℕ, Bool, ◌||◌, nat_le, Option, Some}
+use Rattle.tap_ledger.specs.declared.act.Act.{Act}
+use Rattle.vring_turns.specs.declared.step.Step.{Step}
+use Rattle.vring_turns.specs.declared.step.Step.TheVariants.{More, Ended}
+
+-- a turn that handled so many packets, bytes and chains did as much as one turn does
+abbrev pub is_enough : ℕ → ℕ → ℕ → Bool
+is_enough packets bytes chains = nat_le 256 packets || nat_le 524288 bytes || nat_le 1024 chains
+
+-- how many chains that are done are published at once, between two packets
+abbrev pub publishes_at : ℕ
+publishes_at = 64
+
+-- the event that a step made, if it made one
+abbrev pub event_of : Step → Option Act
+event_of (More act) = Some act
+event_of (Ended act turn) = act
+
+-- what is so where the turn goes on
+abbrev pub IfMore : Step → Type 0 → Type 0
+IfMore (More act) P = P
+IfMore (Ended act turn) P = Unit {0}

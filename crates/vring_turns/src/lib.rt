@@ -1,0 +1,20 @@
+//! Turns of a device on a ring, as definitions: what a worker may do next, and what each of its steps
+//! makes of the ring, of the guest's memory and of the frames. The workers' contracts, and all that
+//! replays a turn, cite them.
+//!
+//! `specs/Ring.antt` has one change of a ring for each kind of step: notices on or off, a fetch with
+//! what it found, a rewind, a publication. `specs/ReceiveImage.antt` and `specs/TransmitBytes.antt`
+//! have the copies into and out of chains. `specs/TxTurn.antt` and `specs/RxTurn.antt` put them in
+//! their order: where a turn stands, which step comes next, and when it ends. `specs/TxRun.antt` says
+//! what a whole transmit turn did. `specs/TxExamples.antt` and `specs/RxExamples.antt` are worked rings.
+#![tactic(auto)]
+
+mod end;
+mod laws;
+mod stage;
+mod step;
+
+pub use crate::end::{End, TurnEnd};
+pub use crate::laws::{receive_examples, transmit_examples};
+pub use crate::stage::{After, RxStage, TxStage};
+pub use crate::step::Step;
