@@ -1,0 +1,9 @@
+pub mod Settings
+pub mod Refusals
+pub mod Calls
+pub mod Laws
+pub mod Examples
+pub mod Device
+pub mod KeptRing
+pub mod Kept
+pub mod Lending
