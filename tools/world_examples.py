@@ -24,7 +24,7 @@ def unfoldables(repo, crates):
 
 
 CRATES = ["tap_queues", "tap_flow_key", "tap_flows", "ebpf_code", "ebpf_run", "tap_steer", "text_fields", "guest_mem",
-          "vring_split", "vring_walk", "vhost_queue", "vring_drive", "scen_words", "scen_text", "tap_world", "tap_legal"]
+          "vring_split", "vring_walk", "vhost_queue", "vring_drive", "vhost_dev", "vring_turns", "scen_words", "scen_text", "tap_world", "tap_legal"]
 
 
 def literal(text):

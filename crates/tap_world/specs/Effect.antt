@@ -1,9 +1,12 @@
 -- This project's own: what an event changes, as data, and the world after it.
-use Rattle.std.specs.Prelude.{ℕ, ◌==◌, if◌then◌else◌, List, [], ◌∷◌, ◌++◌, map, drop, slice_get, Option, Some, None}
+use Rattle.std.specs.Prelude.{ℕ, ◌==◌, if◌then◌else◌, List, [], ◌∷◌, ◌++◌, map, drop, slice_get, Option, Some, None, option_map, option_to_list}
 use Rattle.tap_frame.specs.declared.name.Name.{Name}
 use Rattle.tap_steer.specs.declared.operation.Op.{Op}
 use Rattle.tap_trace.specs.declared.answer.Answer.{Answer}
 use Rattle.tap_trace.specs.declared.answer.Answer.TheVariants as answer
+use Rattle.tap_trace.specs.declared.kind.Kind.{Kind}
+use Rattle.tap_trace.specs.declared.trace.StepLine.{StepLine}
+use Rattle.guest_mem.specs.Memory.{Contents}
 use Rattle.tap_world.specs.declared.event.Found.{Found}
 use Rattle.tap_world.specs.declared.event.Heard.{Heard}
 use Rattle.tap_world.specs.declared.event.Heard.TheVariants as heard
@@ -11,6 +14,7 @@ use Rattle.tap_world.specs.Then.{◌>>=◌, only_if}
 use Rattle.tap_world.specs.ByNumber.{at, with_at, with_nth}
 use Rattle.tap_world.specs.Line.{File, is_empty}
 use Rattle.tap_world.specs.LineSteps.{Change, changed}
+use Rattle.tap_world.specs.Guests.{Guest, Vhost}
 use Rattle.tap_world.specs.World.{Actor, Doing, Published, Said, World}
 use Rattle.tap_world.specs.World.Doing.{Begun, Purges}
 
@@ -19,17 +23,29 @@ pub data OnFiles : Type 0 where
   NoFile : OnFiles
   OnFile : ℕ → Change → OnFiles
 
+-- no guest changes, or one does, with its step
+pub data OnGuests : Type 0 where
+  NoGuest : OnGuests
+  OnGuest : ℕ → Contents → Option Kind → OnGuests
+
+-- no vhost changes, or one does
+pub data OnVhosts : Type 0 where
+  NoVhost : OnVhosts
+  OnVhost : ℕ → Vhost → OnVhosts
+
 -- how the command goes on: having seen a version, and with what the event found; to its end, with its answer; or as it was
 pub data Onward : Type 0 where
   Goes : ℕ → Doing → Found → Onward
   Ends : ℕ → Answer → Onward
   Stays : Found → Onward
 
--- an event's effect: what it publishes, which file it changes, the names that it gives to the host and drops, who holds
--- the writer after it, and how its command goes on
+-- an event's effect: what it publishes; which file, guest and vhost it changes; the names that it gives to the host and
+-- drops; who holds the writer after it; and how its command goes on
 pub record Effect : Type 0 where
   pub ops : List Op
   pub files : OnFiles
+  pub guests : OnGuests
+  pub vhosts : OnVhosts
   pub hosts : List Name
   pub drops : List Name
   pub writer : Option ℕ
@@ -37,7 +53,16 @@ pub record Effect : Type 0 where
 
 -- nothing but that the command goes on
 abbrev pub only : Onward → World → Effect
-only o w = record { ops = []; files = NoFile; hosts = []; drops = []; writer = w.writer; onward = o }
+only o w = record {
+  ops = [];
+  files = NoFile;
+  guests = NoGuest;
+  vhosts = NoVhost;
+  hosts = [];
+  drops = [];
+  writer = w.writer;
+  onward = o;
+}
 
 -- and one file changes
 abbrev pub on_file : ℕ → Change → Onward → World → Effect
@@ -51,6 +76,19 @@ files_after (OnFile file change) files = do
   f ← at files file
   g ← changed change f
   Some (with_at file g files)
+
+abbrev pub guests_after : ℕ → ℕ → OnGuests → List (Option Guest) → Option (List (Option Guest))
+guests_after actor command NoGuest guests = Some guests
+guests_after actor command (OnGuest guest memory step) guests = do
+  g ← at guests guest
+  Some (with_at guest (record {
+    memory = memory;
+    steps = g.steps ++ option_to_list (option_map (λ k. record { actor = actor; command = command; kind = k }) step);
+  }) guests)
+
+abbrev pub vhosts_after : OnVhosts → List (Option Vhost) → List (Option Vhost)
+vhosts_after NoVhost vhosts = vhosts
+vhosts_after (OnVhost vhost v) vhosts = with_at vhost v vhosts
 
 -- the actor after its event
 abbrev pub actor_after : Onward → Actor → Actor
@@ -68,9 +106,12 @@ said_after other phase actor command = []
 abbrev pub with_effect : Effect → ℕ → Actor → ℕ → World → Option World
 with_effect e actor a command w = do
   files ← files_after e.files w.files
+  guests ← guests_after actor command e.guests w.guests
   Some (record {
     ops = w.ops ++ map (λ x. record { phase = w.phase; actor = actor; command = command; op = x }) e.ops;
     files = files;
+    guests = guests;
+    vhosts = vhosts_after e.vhosts w.vhosts;
     hosted = w.hosted ++ e.hosts;
     dropped = w.dropped ++ e.drops;
     writer = e.writer;

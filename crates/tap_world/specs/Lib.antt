@@ -4,11 +4,14 @@ pub mod Frames
 pub mod Setup
 pub mod Line
 pub mod LineSteps
+pub mod Guests
 pub mod World
 pub mod Effect
 pub mod Causes
 pub mod StepTable
 pub mod StepRing
+pub mod StepControl
+pub mod StepTurns
 pub mod Scripts
 pub mod Step
 pub mod Runs

@@ -1,5 +1,5 @@
 -- This project's own: the trace of a run, read off the world that it ends in.
-use Rattle.std.specs.Prelude.{ℕ, zero, suc, ◌+◌, ◌==◌, ◌&&◌, List, [], ◌∷◌, ◌++◌, map, filter, flat_map, slice_get, slice_index_or, Option, Some, None}
+use Rattle.std.specs.Prelude.{ℕ, zero, suc, ◌+◌, ◌==◌, ◌&&◌, List, [], ◌∷◌, ◌++◌, map, filter, flat_map, take, drop, slice_get, slice_index_or, Option, Some, None}
 use Rattle.std.specs.Option.{option_map_or}
 use Rattle.tap_steer.specs.declared.operation.Op.{Op}
 use Rattle.tap_steer.specs.declared.operation.Op.TheVariants as op
@@ -9,12 +9,17 @@ use Rattle.scen_text.specs.declared.scenario.Line.{Line}
 use Rattle.scen_text.specs.declared.scenario.Phase.{Phase}
 use Rattle.tap_trace.specs.declared.trace.AnswerLine.{AnswerLine}
 use Rattle.tap_trace.specs.declared.trace.FilePart.{FilePart}
+use Rattle.tap_trace.specs.declared.trace.GuestPart.{GuestPart}
 use Rattle.tap_trace.specs.declared.trace.OpLine.{OpLine}
 use Rattle.tap_trace.specs.declared.trace.OpText.{OpText}
 use Rattle.tap_trace.specs.declared.trace.OpText.TheVariants as text
 use Rattle.tap_trace.specs.declared.trace.PhasePart.{PhasePart}
 use Rattle.tap_trace.specs.declared.trace.PlaceLine.{PlaceLine}
+use Rattle.tap_trace.specs.declared.trace.PositionList.{PositionList}
+use Rattle.tap_trace.specs.declared.trace.RingPart.{RingPart}
 use Rattle.tap_trace.specs.declared.trace.Trace.{Trace}
+use Rattle.vhost_dev.specs.Settings.{RingSettings}
+use Rattle.tap_world.specs.Guests.{Guest, Vhost}
 use Rattle.tap_world.specs.ByNumber.{numbered}
 use Rattle.tap_world.specs.Setup.{Setup, line_of}
 use Rattle.tap_world.specs.Line.{Entry, File, claimed, fate_of, freed}
@@ -77,12 +82,30 @@ place_lines place (e ∷ es) =
 abbrev pub file_part : ℕ × File → FilePart
 file_part f = record { file = f.0; claimed = claimed f.1; freed = freed f.1; lines = place_lines f.1.first f.1.line }
 
+-- ---- guests and rings
+
+abbrev pub guest_part : ℕ × Guest → GuestPart
+guest_part g = record { guest = g.0; steps = g.1.steps }
+
+-- the lists of positions: of each its base and the chains that were published before the next one began
+abbrev pub lists_from : List (ℕ × ℕ) → List (ℕ × ℕ × ℕ) → List PositionList
+lists_from [] journal = []
+lists_from ((base, start) ∷ []) journal = record { base = base; used = drop start journal } ∷ []
+lists_from ((base, start) ∷ (next, until) ∷ more) journal =
+    record { base = base; used = drop start (take until journal) } ∷ lists_from ((next, until) ∷ more) journal
+
+abbrev pub ring_part : ℕ → ℕ → RingSettings → RingPart
+ring_part vhost ring r = record { vhost = vhost; ring = ring; lists = lists_from r.lists r.queue.positions.journal }
+
+abbrev pub ring_parts : ℕ × Vhost → List RingPart
+ring_parts v = ring_part v.0 0 v.1.settings.rx ∷ ring_part v.0 1 v.1.settings.tx ∷ []
+
 -- ---- the trace
 
 abbrev pub project : Setup → World → Trace
 project s w = record {
   phases = phase_parts s w 0 s.phases;
   files = map file_part (numbered 0 w.files);
-  guests = [];
-  rings = [];
+  guests = map guest_part (numbered 0 w.guests);
+  rings = flat_map ring_parts (numbered 0 w.vhosts);
 }

@@ -9,6 +9,7 @@ use Rattle.tap_world.specs.declared.event.EventKind.{EventKind}
 use Rattle.tap_world.specs.Then.{◌>>=◌, only_if}
 use Rattle.tap_world.specs.Setup.{Declared, Numbered, Setup, script_in, setup_of}
 use Rattle.tap_world.specs.Line.{File}
+use Rattle.tap_world.specs.Guests.{new_guest, new_vhost}
 use Rattle.tap_world.specs.World.{Actor, World, current, newest}
 use Rattle.tap_world.specs.World.Doing.{Begun}
 use Rattle.tap_world.specs.Scripts.{is_kind, next_kind}
@@ -33,6 +34,8 @@ abbrev pub opening : Setup → World
 opening s = record {
   ops = [];
   files = map (λ d. option_map new_file d) s.files;
+  guests = map (λ r. option_map new_guest r) s.guests;
+  vhosts = map (λ g. option_map new_vhost g) s.vhosts;
   hosted = [];
   dropped = [];
   writer = None;
@@ -90,7 +93,7 @@ if_allowed s w e = if is_allowed s w e then Does e else Waits
 abbrev pub next_of : Setup → World → ℕ → Actor → Option Numbered → Next
 next_of s w actor a None = Ended
 next_of s w actor a (Some c) =
-    option_map_or (λ kind. if_allowed s w (record { actor = actor; command = c.number; kind = kind })) (next_kind w a.doing) Waits
+    option_map_or (λ kind. if_allowed s w (record { actor = actor; command = c.number; kind = kind })) (next_kind w a.doing c.command) Waits
 
 abbrev pub next : Setup → World → ℕ → Next
 next s w actor = option_map_or (λ (a : Actor). next_of s w actor a (current a.script)) (slice_get w.actors actor) Ended

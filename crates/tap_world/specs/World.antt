@@ -5,12 +5,18 @@ use Rattle.tap_frame.specs.declared.name.Name.{Name}
 use Rattle.tap_steer.specs.declared.operation.Op.{Op}
 use Rattle.tap_steer.specs.Table.{Table}
 use Rattle.tap_steer.specs.After.{after_all}
+use Rattle.tap_frame.specs.Frame.{FrameValue}
+use Rattle.tap_trace.specs.declared.causes.TapText.{TapText}
+use Rattle.tap_trace.specs.declared.turn.ChainText.{ChainText}
 use Rattle.tap_trace.specs.declared.trace.AnswerLine.{AnswerLine}
+use Rattle.vring_turns.specs.RxTurn.{RxTurn}
+use Rattle.vring_turns.specs.TxTurn.{TxTurn}
 use Rattle.tap_world.specs.Then.{◌>>=◌}
 use Rattle.tap_world.specs.ByNumber.{at}
 use Rattle.tap_world.specs.Frames.{Front}
 use Rattle.tap_world.specs.Setup.{Numbered, Setup, opening_table}
 use Rattle.tap_world.specs.Line.{File}
+use Rattle.tap_world.specs.Guests.{Guest, Vhost}
 
 -- How far a command has come, with the file that it is about.
 pub data Doing : Type 0 where
@@ -28,6 +34,15 @@ pub data Doing : Type 0 where
   Reads : ℕ → ℕ → Front → Doing -- a read: its room, and what stands in front of frames
   Hosts : ℕ → List ℕ → Bool → Doing -- a write of these Ethernet bytes, and whether they are learnt
   Learns : ℕ → List ℕ → Doing -- the frame is with the host, and its flow is to be learnt
+  Backs : Option TapText → Doing -- a backend, to be set or unset in the ring; and the table's refusal
+  Backed : ℕ → Doing -- it is set in the ring, to publish
+  Owns : ℕ → ℕ → Doing -- published as this version, to make the worker the owner
+  Unbacked : ℕ → Doing -- it is unset in a receive ring, to give the file back
+  Disowned : ℕ → Doing -- it is unset, to publish
+  Receives : ℕ → RxTurn → Doing -- a receive turn on a file
+  Transmits : ℕ → TxTurn → List ChainText → Doing -- a transmit turn on a file, and what became of its chains
+  Given : ℕ → TxTurn → List ChainText → FrameValue → Doing -- its frame is with the host, to look
+  Teaches : ℕ → TxTurn → List ChainText → FrameValue → Doing -- the frame's flow is to be learnt
 
 -- an actor: the newest version that it has seen, its commands that haven't ended, and how far the first of them has come
 pub record Actor : Type 0 where
@@ -47,11 +62,13 @@ pub record Said : Type 0 where
   pub phase : ℕ
   pub line : AnswerLine
 
--- A world: the operations; the files by number; the names that were given to the host, and that were dropped; the actor
--- that holds the writer; the number of the phase; its actors; and the answers given.
+-- A world: the operations; files, guests and vhosts by number; the names that were given to the host, and that were
+-- dropped; the actor that holds the writer; the number of the phase; its actors; and the answers given.
 pub record World : Type 0 where
   pub ops : List Published
   pub files : List (Option File)
+  pub guests : List (Option Guest)
+  pub vhosts : List (Option Vhost)
   pub hosted : List Name
   pub dropped : List Name
   pub writer : Option ℕ
