@@ -46,7 +46,7 @@ def main():
     repo, out, examples = sys.argv[1], sys.argv[2], sys.argv[3:]
     uses, names = unfoldables(repo, CRATES)
     uses += ["use Rattle.hex.specs.Hex as hex", "use Rattle.std.specs.Fmt as fmt"]
-    names += ["hex.decode_pairs", "hex.encode_with", "fmt.digits"]
+    names += ["hex.decode_pairs", "hex.encode_with", "fmt.digits", "lib.Count.ones"]
     lines = ["use Rattle.std.specs.Prelude.{◌≡◌, ℕ, refl, Some, None, codes}", "use Rattle.probe.specs.Played.{output, judgement}"]
     lines += uses
     for e in examples:
