@@ -27,6 +27,11 @@ CRATES = ["tap_queues", "tap_flow_key", "tap_flows", "ebpf_code", "ebpf_run", "t
           "vring_split", "vring_walk", "vhost_queue", "vring_drive", "vhost_dev", "vring_turns", "scen_words", "scen_text", "tap_world", "tap_legal"]
 
 
+# the same of the toolchain's definitions
+KIT = (["use Rattle.hex.specs.Hex as hex", "use Rattle.std.specs.Fmt as fmt"],
+       ["hex.decode_pairs", "hex.encode_with", "fmt.digits", "lib.Count.ones"])
+
+
 def literal(text):
     return text.replace("\\", "\\\\").replace('"', '\\"').replace("\n", "\\n")
 
@@ -45,8 +50,7 @@ def seed_of(path):
 def main():
     repo, out, examples = sys.argv[1], sys.argv[2], sys.argv[3:]
     uses, names = unfoldables(repo, CRATES)
-    uses += ["use Rattle.hex.specs.Hex as hex", "use Rattle.std.specs.Fmt as fmt"]
-    names += ["hex.decode_pairs", "hex.encode_with", "fmt.digits", "lib.Count.ones"]
+    uses, names = uses + KIT[0], names + KIT[1]
     lines = ["use Rattle.std.specs.Prelude.{◌≡◌, ℕ, refl, Some, None, codes}", "use Rattle.probe.specs.Played.{output, judgement}"]
     lines += uses
     for e in examples:
@@ -59,4 +63,5 @@ def main():
     open(out, "w").write("\n".join(lines) + "\n")
 
 
-main()
+if __name__ == "__main__":
+    main()

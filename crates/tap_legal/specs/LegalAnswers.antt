@@ -23,7 +23,7 @@ use Rattle.tap_world.specs.Setup.{frame_of}
 use Rattle.tap_legal.specs.Numbered.{AnswerAt, Asked, EntryAt, OpAt, PhaseAt, Told, same_told}
 use Rattle.tap_legal.specs.Same.{is_bad, same_refusal}
 use Rattle.tap_legal.specs.Case.{Case, fails_as, fails_each, fails_missing, fails_order, of_answer}
-use Rattle.tap_legal.specs.Lookups.{entry_at, is_below_own, is_own_next, newest_before, newest_of, ops_of, seen_before, some_version, table_at}
+use Rattle.tap_legal.specs.Lookups.{entry_named, is_below_own, is_own_next, newest_before, newest_of, ops_of, seen_before, some_version, table_at}
 use Rattle.tap_legal.specs.LegalTable.{is_learning}
 
 -- ---- the commands
@@ -93,12 +93,12 @@ abbrev pub is_no_device : Answer → Bool
 is_no_device (answer.Tap e) = same_refusal e EBADFD
 is_no_device other = false
 
--- the bytes of a read are those of the frame at its place, in the room
-abbrev pub has_text : Case → Front → ℕ → ℕ → Name → ℕ → List ℕ → Bool
-has_text c front room file name place bytes =
+-- the bytes of a read are those of its frame, as it was placed, in the room
+abbrev pub has_text : Case → Front → ℕ → Name → List ℕ → Bool
+has_text c front room name bytes =
     option_map_or (λ (e : EntryAt).
         option_map_or (λ f. bytes_eq (text_in front f room) bytes) (frame_of c.setup name e.at.len) true)
-    (entry_at c file place) true
+    (entry_named c name) true
 
 -- a version from SEEN on, of the phase, and below the next one that this actor publishes
 abbrev pub at_some : Case → AnswerAt → (Table → Bool) → Bool
@@ -111,7 +111,7 @@ has_worker file t = is_some (file_at t file).rx
 abbrev pub fits_read : Case → AnswerAt → ℕ → ℕ → Front → Answer → Bool
 fits_read c a file room front (answer.Room least) = nat_lt room (least_in front) && least == least_in front
 fits_read c a file room front (answer.Read name place bytes) =
-    nat_le (least_in front) room && has_text c front room file name place bytes
+    nat_le (least_in front) room && has_text c front room name bytes
 fits_read c a file room front answer.Busy = nat_le (least_in front) room && at_some c a (has_worker file)
 fits_read c a file room front (answer.Again place) = nat_le (least_in front) room
 fits_read c a file room front other = false

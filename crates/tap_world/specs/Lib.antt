@@ -16,3 +16,5 @@ pub mod Scripts
 pub mod Step
 pub mod Runs
 pub mod Project
+pub mod Sound
+pub mod Laws

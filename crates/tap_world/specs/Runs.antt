@@ -6,13 +6,14 @@ use Rattle.scen_text.specs.declared.scenario.Phase.{Phase}
 use Rattle.scen_text.specs.declared.scenario.Scenario.{Scenario}
 use Rattle.tap_world.specs.declared.event.Event.{Event}
 use Rattle.tap_world.specs.declared.event.EventKind.{EventKind}
-use Rattle.tap_world.specs.Then.{◌>>=◌, only_if}
+use Rattle.tap_world.specs.declared.event.Heard.{Heard}
+use Rattle.tap_world.specs.Then.{◌>>=◌}
 use Rattle.tap_world.specs.Setup.{Declared, Numbered, Setup, script_in, setup_of}
 use Rattle.tap_world.specs.Line.{File}
 use Rattle.tap_world.specs.Guests.{new_guest, new_vhost}
 use Rattle.tap_world.specs.World.{Actor, World, current, newest}
 use Rattle.tap_world.specs.World.Doing.{Begun}
-use Rattle.tap_world.specs.Scripts.{is_kind, next_kind}
+use Rattle.tap_world.specs.Scripts.{next_kind}
 use Rattle.tap_world.specs.Step.{is_allowed, step}
 
 -- ---- where a run begins
@@ -121,25 +122,21 @@ moved_on x = (x * 6364136223846793005 + 1442695040888963407) % 2 ^ 64
 abbrev pub picked : ℕ → List Event → Option Event
 picked x events = slice_get events (x / 2 ^ 33 % length events)
 
-abbrev pub same_event : Event → Event → Bool
-same_event d e = d.actor == e.actor && d.command == e.command && is_kind d.kind (Some e.kind)
-
 -- x and the world after a phase's events, each of which x picked, and after which there is no choice
-abbrev pub chosen : Setup → ℕ → List Event → World → Option (ℕ × World)
-chosen s x [] w = only_if (is_none (picked (moved_on x) (choices s w))) (x, w)
-chosen s x (e ∷ es) w = do
-  d ← picked (moved_on x) (choices s w)
-  next ← if same_event d e then step s w e else None
-  chosen s (moved_on x) es next.0
+abbrev pub IsChosen : Setup → ℕ → List Event → World → ℕ → World → Type 0
+IsChosen s x [] w y v = (picked (moved_on x) (choices s w) ≡ None) × (y ≡ x) × (v ≡ w)
+IsChosen s x (e ∷ es) w y v =
+    (picked (moved_on x) (choices s w) ≡ Some e)
+    × (u : World × Heard) × (step s w e ≡ Some u) × IsChosen s (moved_on x) es u.0 y v
 
--- the same for all phases: x runs on
-abbrev pub chosen_phases : Setup → ℕ → ℕ → List Phase → List (List Event) → World → Option World
-chosen_phases s x number [] [] w = Some w
-chosen_phases s x number (p ∷ ps) (es ∷ more) w = do
-  v ← chosen s x es (begins number p w)
-  if has_ended v.1 then chosen_phases s v.0 (number + 1) ps more v.1 else None
-chosen_phases s x number ps more w = None
+-- the same of all phases from a number on: x runs on
+abbrev pub AreChosen : Setup → ℕ → ℕ → List Phase → List (List Event) → World → World → Type 0
+AreChosen s x number [] [] w v = v ≡ w
+AreChosen s x number (p ∷ ps) (es ∷ more) w v =
+    (y : ℕ) × (u : World) × IsChosen s x es (begins number p w) y u × (has_ended u ≡ true)
+    × AreChosen s y (number + 1) ps more u v
+AreChosen s x number ps more w v = ⊥
 
--- the run of a seed, and the world that it ends in
+-- the run of a seed, phase by phase, and the world that it ends in
 abbrev pub IsOrder : Scenario → ℕ → List (List Event) → World → Type 0
-IsOrder s seed events w = chosen_phases (setup_of s) seed 0 s.phases events (opening (setup_of s)) ≡ Some w
+IsOrder s seed events w = AreChosen (setup_of s) seed 0 s.phases events (opening (setup_of s)) w

@@ -14,7 +14,7 @@ use Rattle.tap_world.specs.ByNumber.{at}
 use Rattle.tap_world.specs.Line.{File, has_batch, is_full, is_gone, is_over, is_spent}
 use Rattle.tap_world.specs.LineSteps.{ready_front}
 use Rattle.tap_world.specs.World.{Doing, World}
-use Rattle.tap_world.specs.World.Doing.{Backed, Backs, Begun, Changes, Disowned, Given, Hosts, Learns, Opened, Opens, Owns, Placed, Purges, Reads, Receives, Resizes, Routed, Shrinks, Teaches, Transmits, Unbacked, Withdrawn, Withdraws}
+use Rattle.tap_world.specs.World.Doing.{Backed, Backs, Begun, Changes, Disowned, Given, Hosts, Learns, Opened, Opens, Owns, Placed, Purges, Reads, Receives, Released, Resizes, Routed, Shrinks, Teaches, Transmits, Unbacked, Withdrawn, Withdraws}
 use Rattle.tap_world.specs.StepControl.{vhost_of}
 use Rattle.tap_world.specs.StepTurns.{is_off}
 
@@ -113,6 +113,7 @@ next_kind w (Backed file) c = Some event.Publish
 next_kind w (Owns file version) c = Some event.Owner
 next_kind w (Unbacked file) c = Some event.Owner
 next_kind w (Disowned file) c = Some event.Publish
+next_kind w (Released file) c = Some event.Publish
 next_kind w (Receives file t) c = rx_next_kind w file t.stage
 next_kind w (Transmits file t chains) c = tx_next_kind t.stage
 next_kind w (Given file t chains f) c = Some event.Look

@@ -41,7 +41,7 @@ use Rattle.tap_world.specs.Guests.{Guest, Vhost, driver_of, is_free_for, is_ring
 use Rattle.tap_world.specs.Setup.{Setup}
 use Rattle.tap_world.specs.LineSteps.Change.{Owned}
 use Rattle.tap_world.specs.World.{Doing, World, newest, table}
-use Rattle.tap_world.specs.World.Doing.{Backed, Backs, Disowned, Owns, Unbacked}
+use Rattle.tap_world.specs.World.Doing.{Backed, Backs, Disowned, Owns, Released, Unbacked}
 use Rattle.tap_world.specs.Effect.{Effect, Onward, on_file, only}
 use Rattle.tap_world.specs.Effect.OnGuests.{NoGuest, OnGuest}
 use Rattle.tap_world.specs.Effect.OnVhosts.{NoVhost, OnVhost}
@@ -263,7 +263,7 @@ unsets_back w actor seen vhost ring v m (Some e) file =
 unsets_back w actor seen vhost ring v m None None =
     back_ends w actor seen vhost ring None v m answer.Done (Some (kind.Backend vhost ring false))
 unsets_back w actor seen vhost ring v m None (Some file) =
-    record (only (Goes seen (if ring == 0 then Unbacked file else Disowned file) (found.Step (kind.Backend vhost ring true))) w) {
+    record (only (Goes seen (if ring == 0 then Unbacked file else Released file) (found.Step (kind.Backend vhost ring true))) w) {
       guests = OnGuest v.guest m (Some (kind.Backend vhost ring true));
       vhosts = OnVhost vhost (record v { settings = without_backend ring v.settings });
     }
@@ -297,6 +297,8 @@ publishes_back w (Backed file) (command.Backend vhost ring asked) =
       then record (only (Goes (newest w + 1) (Owns file (newest w + 1)) (found.Version (newest w + 1))) w) { ops = x ∷ [] }
       else record (back_over w (newest w + 1) vhost ring (newest w + 1)) { ops = x ∷ [] })
 publishes_back w (Disowned file) (command.Backend vhost ring asked) =
+    Some (record (back_over w (newest w + 1) vhost ring (newest w + 1)) { ops = op.Back file (side_of ring) None ∷ [] })
+publishes_back w (Released file) (command.Backend vhost ring asked) =
     Some (record (back_over w (newest w + 1) vhost ring (newest w + 1)) { ops = op.Back file (side_of ring) None ∷ [] })
 publishes_back w doing c = None
 

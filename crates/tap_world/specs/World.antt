@@ -38,7 +38,8 @@ pub data Doing : Type 0 where
   Backed : ℕ → Doing -- it is set in the ring, to publish
   Owns : ℕ → ℕ → Doing -- published as this version, to make the worker the owner
   Unbacked : ℕ → Doing -- it is unset in a receive ring, to give the file back
-  Disowned : ℕ → Doing -- it is unset, to publish
+  Disowned : ℕ → Doing -- it is given back, to publish
+  Released : ℕ → Doing -- it is unset in a transmit ring, to publish
   Receives : ℕ → RxTurn → Doing -- a receive turn on a file
   Transmits : ℕ → TxTurn → List ChainText → Doing -- a transmit turn on a file, and what became of its chains
   Given : ℕ → TxTurn → List ChainText → FrameValue → Doing -- its frame is with the host, to look
