@@ -40,10 +40,11 @@ def main():
     for k, (example, changes, verdict) in enumerate(module.CASES):
         path = f"{examples}/{example}"
         trace = changed(trace_of(path + ".out"), changes)
-        lines += ["", f"t{k} : Trace", f"t{k} = {term(trace)}", "", f"-- {example} {changes}".replace("\n", " "),
+        lines += ["", f"abbrev t{k} : Trace", f"t{k} = {term(trace)}", "", f"-- {example} {changes}".replace("\n", " "),
                   f'pub c{k} : judged (codes "{literal(open(path + ".in").read())}") t{k} ≡ Some (codes "{verdict}")',
-                  f"unfolding t{k} " + " ".join(names), f"c{k} = refl"]
+                  "unfolding " + " ".join(names), f"c{k} = refl"]
     open(out, "w").write("\n".join(lines) + "\n")
 
 
-main()
+if __name__ == "__main__":
+    main()

@@ -18,3 +18,4 @@ pub mod Runs
 pub mod Project
 pub mod Sound
 pub mod Laws
+pub mod Examples

@@ -1,5 +1,6 @@
 //! What the definitions mean.
 
+ghost use Rattle.tap_world.specs.Examples.{NoClaimWhenFull, RunHasTrace};
 ghost use Rattle.tap_world.specs.Laws.{FramesAgree, LeaveInOrder, NameStandsOnce, OneOrder, UpgradeHasSameOrders};
 
 /// A scenario has one order for each seed: its events, and the world that it ends in.
@@ -29,5 +30,12 @@ pub fn leave_in_order()
 /// What is told of frames by the parts of a shape is what is told by the shape.
 pub fn frames_agree()
     ensures { FramesAgree }
+{
+}
+
+/// A worked run: its trace, and an event that isn't allowed.
+pub fn worked_run()
+    ensures trace { RunHasTrace }
+    ensures full { NoClaimWhenFull }
 {
 }

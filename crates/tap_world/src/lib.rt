@@ -13,4 +13,5 @@ mod laws;
 pub use event::{Event, EventKind, Found, Heard};
 pub use laws::{
     frames_agree, leave_in_order, name_stands_once, one_order, upgrade_has_same_orders,
+    worked_run,
 };
