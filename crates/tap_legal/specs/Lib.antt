@@ -11,3 +11,4 @@ pub mod LegalGone
 pub mod LegalNotReady
 pub mod LegalFates
 pub mod Verdict
+pub mod Laws

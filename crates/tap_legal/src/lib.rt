@@ -6,5 +6,7 @@
 #![tactic(auto)]
 
 mod clause;
+mod laws;
 
 pub use clause::Clause;
+pub use laws::{legal_where_none_fails, upgrade_has_same_traces, worked_verdicts};
