@@ -8,7 +8,7 @@ use Rattle.tap_steer.specs.After.{after}
 use Rattle.scen_text.specs.declared.scenario.Scenario.{Scenario}
 use Rattle.tap_trace.specs.declared.trace.Trace.{Trace}
 use Rattle.tap_world.specs.Setup.{Setup, opening_table, setup_of}
-use Rattle.tap_legal.specs.Numbered.{AnswerAt, Asked, EntryAt, FileAt, OpAt, PhaseAt, StepAt, answers_at, asked_from, behind_files, behind_phases, end_line, entries_of, files_at, ops_at, phases_at, steps_at}
+use Rattle.tap_legal.specs.Numbered.{AnswerAt, Asked, EntryAt, FileAt, GuestAt, OpAt, PhaseAt, RingAt, StepAt, answers_at, asked_from, behind_files, behind_guests, behind_phases, end_line, entries_of, files_at, guests_at, ops_at, phases_at, rings_at, steps_at}
 
 -- what the scenario lays down and asks for; the lines of the trace; the table at each version, from 0 on; the line of `end`
 pub record Case : Type 0 where
@@ -20,7 +20,9 @@ pub record Case : Type 0 where
   pub answers : List AnswerAt
   pub files : List FileAt
   pub entries : List EntryAt
+  pub guests : List GuestAt
   pub steps : List StepAt
+  pub rings : List RingAt
   pub end : ℕ
 
 -- an operation that can't be told changes nothing
@@ -43,7 +45,9 @@ case_with s asked t = record {
   answers = answers_at asked 2 0 t.phases;
   files = files_at (behind_phases 2 t.phases) t.files;
   entries = flat_map entries_of (files_at (behind_phases 2 t.phases) t.files);
+  guests = guests_at (behind_files (behind_phases 2 t.phases) t.files) t.guests;
   steps = steps_at (behind_files (behind_phases 2 t.phases) t.files) t.guests;
+  rings = rings_at (behind_guests (behind_files (behind_phases 2 t.phases) t.files) t.guests) t.rings;
   end = end_line t;
 }
 

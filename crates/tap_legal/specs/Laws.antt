@@ -11,6 +11,7 @@ use Rattle.tap_legal.specs.LegalLines.{c_fails}
 use Rattle.tap_legal.specs.LegalFull.{d_fails}
 use Rattle.tap_legal.specs.LegalGone.{e_fails}
 use Rattle.tap_legal.specs.LegalNotReady.{f_fails}
+use Rattle.tap_legal.specs.LegalGuests.{g_fails, replays}
 use Rattle.tap_legal.specs.LegalFates.{h_fails}
 use Rattle.tap_legal.specs.Verdict.{IsLegal, verdict}
 
@@ -23,7 +24,8 @@ abbrev pub LegalWhereNoneFails : Type 0
 LegalWhereNoneFails =
     (s : Scenario) (t : Trace)
     → a_fails (case_of s t) ≡ [] → b_fails (case_of s t) ≡ [] → c_fails (case_of s t) ≡ [] → d_fails (case_of s t) ≡ []
-    → e_fails (case_of s t) ≡ [] → f_fails (case_of s t) ≡ [] → h_fails (case_of s t) ≡ [] → IsLegal s t
+    → e_fails (case_of s t) ≡ [] → f_fails (case_of s t) ≡ [] → g_fails (case_of s t) (replays (case_of s t)) ≡ []
+    → h_fails (case_of s t) ≡ [] → IsLegal s t
 
 -- the trace of the worked run is legal
 abbrev pub WorkedIsLegal : Type 0

@@ -9,6 +9,10 @@ pub mod LegalLines
 pub mod LegalFull
 pub mod LegalGone
 pub mod LegalNotReady
+pub mod Codes
+pub mod Replay
+pub mod ReplayTurns
+pub mod LegalGuests
 pub mod LegalFates
 pub mod Verdict
 pub mod Laws

@@ -90,6 +90,17 @@ pub record StepAt : Type 0 where
   pub guest : ℕ
   pub at : StepLine
 
+-- a `guest` line, and a `ring` line with the lines behind it
+pub record GuestAt : Type 0 where
+  pub line : ℕ
+  pub guest : ℕ
+
+pub record RingAt : Type 0 where
+  pub line : ℕ
+  pub vhost : ℕ
+  pub ring : ℕ
+  pub lists : List PositionList
+
 -- ---- phases
 
 -- the operation that an `op` line tells
@@ -184,6 +195,10 @@ abbrev pub behind_guests : ℕ → List GuestPart → ℕ
 behind_guests line [] = line
 behind_guests line (g ∷ gs) = behind_guests (line + 1 + length g.steps) gs
 
+abbrev pub guests_at : ℕ → List GuestPart → List GuestAt
+guests_at line [] = []
+guests_at line (g ∷ gs) = record { line = line; guest = g.guest } ∷ guests_at (line + 1 + length g.steps) gs
+
 abbrev pub list_lines : List PositionList → ℕ
 list_lines [] = 0
 list_lines (l ∷ ls) = 1 + length l.used + list_lines ls
@@ -191,6 +206,11 @@ list_lines (l ∷ ls) = 1 + length l.used + list_lines ls
 abbrev pub behind_rings : ℕ → List RingPart → ℕ
 behind_rings line [] = line
 behind_rings line (r ∷ rs) = behind_rings (line + 1 + list_lines r.lists) rs
+
+abbrev pub rings_at : ℕ → List RingPart → List RingAt
+rings_at line [] = []
+rings_at line (r ∷ rs) =
+    record { line = line; vhost = r.vhost; ring = r.ring; lists = r.lists } ∷ rings_at (line + 1 + list_lines r.lists) rs
 
 -- the line of `end`
 abbrev pub end_line : Trace → ℕ

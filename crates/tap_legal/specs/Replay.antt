@@ -62,13 +62,21 @@ pub record Under : Type 0 where
   pub file : ℕ
   pub turning : Turning
 
--- the memory, the vhosts, the turns under way, the entries that turns are still to take, the commands that are done, and
--- the lines that fail in this clause and in that on fates; after a step that can't be, no more is replayed
+-- a frame that a transmit turn accepted: the turn's command, and the hash of the frame's flow
+pub record Accepted : Type 0 where
+  pub command : ℕ
+  pub flow : ℕ
+
+-- the memory, the vhosts, the turns under way, the entries that turns are still to take, the frames that were accepted, the
+-- receive turns with their files, the commands that are done, and the lines that fail in this clause and in that on
+-- fates; after a step that can't be, no more is replayed
 pub record Replay : Type 0 where
   pub memory : Contents
   pub vhosts : List (Option Vhost)
   pub under : List Under
   pub entries : List EntryAt
+  pub accepted : List Accepted
+  pub files : List (ℕ × ℕ)
   pub finished : List ℕ
   pub fails : List ℕ
   pub fate_fails : List ℕ

@@ -6,7 +6,10 @@ use Rattle.std.specs.Option.{option_map_or}
 use Rattle.guest_mem.specs.Memory.{Contents}
 use Rattle.guest_mem.specs.Regions.{zeroed}
 use Rattle.guest_mem.specs.declared.region.Region.{Region}
+use Rattle.tap_flow_key.specs.FlowKey.{hash}
+use Rattle.tap_frame.specs.Frame.{FrameValue}
 use Rattle.tap_ledger.specs.declared.act.Act.{Act}
+use Rattle.tap_ledger.specs.declared.act.Act.TheVariants as act
 use Rattle.tap_ledger.specs.declared.hand.Hand.{Hand}
 use Rattle.tap_ledger.specs.declared.hand.Hand.TheVariants as hand
 use Rattle.tap_ledger.specs.declared.fate.Fate.{Fate}
@@ -36,7 +39,7 @@ use Rattle.tap_world.specs.StepTurns.{chains_after, end_told, is_off, kind_of, r
 use Rattle.tap_legal.specs.Numbered.{AnswerAt, Asked, EntryAt, StepAt}
 use Rattle.tap_legal.specs.Case.{Case}
 use Rattle.tap_legal.specs.Lookups.{answer_of, asked_at}
-use Rattle.tap_legal.specs.Replay.{Replay, Turning, Under, answers, broken_at, hand_for, if_step, next_entry, replay_back, replay_bytes, replay_call}
+use Rattle.tap_legal.specs.Replay.{Accepted, Replay, Turning, Under, answers, broken_at, hand_for, if_step, next_entry, replay_back, replay_bytes, replay_call}
 use Rattle.tap_legal.specs.Replay.Turning.{Receiving, Sending}
 
 -- ---- turns under way
@@ -79,10 +82,16 @@ abbrev pub rx_left : Case → Under → Vhost → Replay → RxState × Act → 
 rx_left c u v r made =
     with_under c (record u { turning = Receiving made.0.turn }) made.0.queue made.0.memory (rx_answer made.0.turn) v r
 
+-- the frame that a step accepted
+abbrev pub accepted_by : ℕ → Act → Option FrameValue → List Accepted
+accepted_by command (act.Copy position name) (Some f) = record { command = command; flow = hash f.made } ∷ []
+accepted_by command other held = []
+
 abbrev pub tx_left : Case → Under → List ChainText → Vhost → Replay → TxState × Act → Replay
 tx_left c u chains v r made =
     let after : List ChainText = chains_after made.1 made.0.turn.held chains in
-    with_under c (record u { turning = Sending made.0.turn after }) made.0.queue made.0.memory (tx_answer made.0.turn after) v r
+    with_under c (record u { turning = Sending made.0.turn after }) made.0.queue made.0.memory (tx_answer made.0.turn after) v
+    (record r { accepted = r.accepted ++ accepted_by u.command made.1 made.0.turn.held })
 
 -- ---- steps that aren't printed
 
@@ -166,7 +175,7 @@ begun c s vhost ring v (Some told) r =
     Some (if_step s (Some told.1) r (answers c s.at.command (answer.Turn 0 0 told.0 []) r))
 begun c s vhost ring v None r =
     let u : Under = record { vhost = vhost; command = s.at.command; file = file_on ring v; turning = turn_begun ring s.at.command s.at.actor v } in
-    step_of c s u u.turning v r
+    step_of c s u u.turning v (record r { files = r.files ++ (if ring == 0 then (s.at.command, u.file) ∷ [] else []) })
 
 -- the next step of the command's turn, or its first one, where no other turn is under way on the ring
 abbrev pub turn_step : Case → StepAt → ℕ → ℕ → Vhost → Option Under → Replay → Option Replay

@@ -12,6 +12,8 @@ use Rattle.tap_legal.specs.LegalLines.{c_fails}
 use Rattle.tap_legal.specs.LegalFull.{d_fails}
 use Rattle.tap_legal.specs.LegalGone.{e_fails}
 use Rattle.tap_legal.specs.LegalNotReady.{f_fails}
+use Rattle.tap_legal.specs.LegalGuests.{g_fails, replays}
+use Rattle.tap_legal.specs.Replay.{Replay}
 use Rattle.tap_legal.specs.LegalFates.{h_fails}
 
 -- a clause with the lines at which it fails
@@ -23,14 +25,17 @@ first_failing [] = None
 first_failing ((letter, []) ∷ more) = first_failing more
 first_failing ((letter, line ∷ lines) ∷ more) = Some (letter, fold min line lines)
 
-abbrev pub failing : Case → List Failing
-failing c =
+abbrev pub failing : Case → List (ℕ × Replay) → List Failing
+failing c rs =
     (clause.A, a_fails c) ∷ (clause.B, b_fails c) ∷ (clause.C, c_fails c) ∷ (clause.D, d_fails c)
-    ∷ (clause.E, e_fails c) ∷ (clause.F, f_fails c) ∷ (clause.H, h_fails c) ∷ []
+    ∷ (clause.E, e_fails c) ∷ (clause.F, f_fails c) ∷ (clause.G, g_fails c rs) ∷ (clause.H, h_fails c) ∷ []
+
+abbrev pub judged : Case → Option (Clause × ℕ)
+judged c = first_failing (failing c (replays c))
 
 -- the verdict
 abbrev pub verdict : Scenario → Trace → Option (Clause × ℕ)
-verdict s t = first_failing (failing (case_of s t))
+verdict s t = judged (case_of s t)
 
 -- the trace is legal for the scenario
 abbrev pub IsLegal : Scenario → Trace → Type 0
