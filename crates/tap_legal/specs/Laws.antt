@@ -4,14 +4,15 @@ use Rattle.scen_text.specs.declared.scenario.Scenario.{Scenario}
 use Rattle.tap_trace.specs.declared.trace.Trace.{Trace}
 use Rattle.tap_world.specs.Examples.{scenario, sent_by, trace_of}
 use Rattle.tap_legal.specs.declared.clause.Clause.TheVariants.{C}
-use Rattle.tap_legal.specs.Case.{case_of}
+use Rattle.tap_legal.specs.Case.{Case, case_of}
 use Rattle.tap_legal.specs.LegalTable.{a_fails}
 use Rattle.tap_legal.specs.LegalAnswers.{b_fails}
 use Rattle.tap_legal.specs.LegalLines.{c_fails}
 use Rattle.tap_legal.specs.LegalFull.{d_fails}
 use Rattle.tap_legal.specs.LegalGone.{e_fails}
 use Rattle.tap_legal.specs.LegalNotReady.{f_fails}
-use Rattle.tap_legal.specs.LegalGuests.{g_fails, replays}
+use Rattle.tap_legal.specs.LegalGuests.{g_fails}
+use Rattle.tap_legal.specs.Replays.{Replays, replays}
 use Rattle.tap_legal.specs.LegalFates.{h_fails}
 use Rattle.tap_legal.specs.Verdict.{IsLegal, verdict}
 
@@ -19,13 +20,15 @@ use Rattle.tap_legal.specs.Verdict.{IsLegal, verdict}
 abbrev pub UpgradeHasSameTraces : Type 0
 UpgradeHasSameTraces = (s : Scenario) (t : Trace) → IsLegal s t ↔ IsLegal (record s { version = 2 }) t
 
+-- no sentence of any clause fails
+abbrev pub NoneFails : Case → Replays → Type 0
+NoneFails c rs =
+    (a_fails c rs ≡ []) × (b_fails c ≡ []) × (c_fails c ≡ []) × (d_fails c ≡ []) × (e_fails c ≡ [])
+    × (f_fails c rs ≡ []) × (g_fails c rs ≡ []) × (h_fails c rs ≡ [])
+
 -- A trace is legal where no sentence of any clause fails.
 abbrev pub LegalWhereNoneFails : Type 0
-LegalWhereNoneFails =
-    (s : Scenario) (t : Trace)
-    → a_fails (case_of s t) ≡ [] → b_fails (case_of s t) ≡ [] → c_fails (case_of s t) ≡ [] → d_fails (case_of s t) ≡ []
-    → e_fails (case_of s t) ≡ [] → f_fails (case_of s t) ≡ [] → g_fails (case_of s t) (replays (case_of s t)) ≡ []
-    → h_fails (case_of s t) ≡ [] → IsLegal s t
+LegalWhereNoneFails = (s : Scenario) (t : Trace) → NoneFails (case_of s t) (replays (case_of s t)) → IsLegal s t
 
 -- the trace of the worked run is legal
 abbrev pub WorkedIsLegal : Type 0

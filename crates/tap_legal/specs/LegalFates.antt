@@ -1,5 +1,5 @@
 -- This project's own, clause h of a legal trace: each accepted frame has one fate, and no other name stands in the trace.
-use Rattle.std.specs.Prelude.{ℕ, ◌+◌, ◌==◌, ◌&&◌, ◌||◌, not, if◌then◌else◌, Bool, true, false, List, [], ◌∷◌, ◌++◌, length, filter, is_none, Option, Some, None}
+use Rattle.std.specs.Prelude.{ℕ, ◌+◌, ◌==◌, ◌&&◌, ◌||◌, not, nat_lt, if◌then◌else◌, Bool, true, false, List, [], ◌∷◌, ◌++◌, length, filter, flat_map, is_none, Option, Some, None}
 use Rattle.std.specs.List.{list_any}
 use Rattle.std.specs.Option.{option_map_or}
 use Rattle.tap_frame.specs.declared.name.Name.{Name}
@@ -8,8 +8,13 @@ use Rattle.scen_words.specs.declared.command.Command.TheVariants as command
 use Rattle.tap_trace.specs.declared.answer.Answer.{Answer}
 use Rattle.tap_trace.specs.declared.answer.Answer.TheVariants as answer
 use Rattle.tap_world.specs.Frames.{bad_in, sent_bytes, sent_front}
-use Rattle.tap_legal.specs.Numbered.{AnswerAt, Asked, EntryAt, StepAt, Told}
-use Rattle.tap_legal.specs.Case.{Case, fails_each, of_answer, of_entry, of_step}
+use Rattle.tap_ledger.specs.declared.fate.Fate.{Fate}
+use Rattle.tap_ledger.specs.declared.fate.Fate.TheVariants as fate
+use Rattle.tap_ledger.specs.declared.fate.Cause.TheVariants as cause
+use Rattle.tap_legal.specs.Numbered.{AnswerAt, Asked, EntryAt, FileAt, StepAt, Told}
+use Rattle.tap_legal.specs.Replay.{Replay}
+use Rattle.tap_legal.specs.Replays.{Replays, is_whole}
+use Rattle.tap_legal.specs.Case.{Case, fails_each, of_answer, of_entry, of_file, of_step}
 use Rattle.tap_legal.specs.Lookups.{answer_of, asked_at, same_name}
 use Rattle.tap_legal.specs.Takes.{copied, copies_of, has_guest, readers, was_read}
 
@@ -66,12 +71,32 @@ is_taken_once c e =
     (not (has_guest e.at.fate) || length (copies_of c e.at.name) == 1)
     && (not (was_read e.at.fate) || length (readers c e) == 1)
 
+-- ---- packets
+
+-- Each `overrun` entry has HAD below NEED, NEED is LEN plus 10 or 12, and QUOTA is 1 or 1,024.
+abbrev pub fits_overrun : ℕ → Fate → Bool
+fits_overrun len (fate.Discarded (cause.Overrun need quota had)) =
+    nat_lt had need && (need == len + 10 || need == len + 12) && (quota == 1 || quota == 1024)
+fits_overrun len other = true
+
+-- Packets of all receive turns on a file are its `guest` and `overrun` entries.
+abbrev pub has_packets : Replays → FileAt → Bool
+has_packets rs f = not (list_any (λ (e : EntryAt). e.file == f.part.file) rs.1)
+
+-- NEED and QUOTA of an `overrun` are those of the settings, and HAD is the bytes of its chains, as the replay has them.
+abbrev pub packets_fail : Case → Replays → List ℕ
+packets_fail c rs =
+    flat_map (λ (r : ℕ × Replay). r.1.fate_fails) rs.0
+    ++ (if is_whole rs then fails_each of_file (has_packets rs) c.files else [])
+
 -- ---- the clause
 
-abbrev pub h_fails : Case → List ℕ
-h_fails c =
+abbrev pub h_fails : Case → Replays → List ℕ
+h_fails c rs =
     fails_each of_answer (λ a. has_one_fate c a a.asked) c.answers
     ++ fails_each of_entry (λ (e : EntryAt). is_sent c e.at.name) c.entries
     ++ fails_each of_answer (reads_sent c) c.answers
     ++ fails_each of_step (copies_sent c) c.steps
     ++ fails_each of_entry (is_taken_once c) c.entries
+    ++ fails_each of_entry (λ (e : EntryAt). fits_overrun e.at.len e.at.fate) c.entries
+    ++ packets_fail c rs

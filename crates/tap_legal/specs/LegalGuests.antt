@@ -2,11 +2,7 @@
 use Rattle.std.specs.Prelude.{ℕ, ◌+◌, ◌-◌, ◌==◌, ◌&&◌, ◌||◌, not, nat_lt, nat_le, if◌then◌else◌, Bool, true, false, List, [], ◌∷◌, ◌++◌, length, map, filter, flat_map, Option, Some, None, is_none, is_some, option_map}
 use Rattle.std.specs.List.{list_any}
 use Rattle.std.specs.Option.{option_map_or}
-use Rattle.guest_mem.specs.Regions.{zeroed}
 use Rattle.guest_mem.specs.declared.region.Region.{Region}
-use Rattle.tap_ledger.specs.declared.fate.Fate.{Fate}
-use Rattle.tap_ledger.specs.declared.fate.Fate.TheVariants as fate
-use Rattle.tap_ledger.specs.declared.fate.Cause.TheVariants as cause
 use Rattle.scen_words.specs.declared.command.Command.{Command}
 use Rattle.scen_words.specs.declared.command.Command.TheVariants as command
 use Rattle.tap_trace.specs.declared.answer.Answer.{Answer}
@@ -17,60 +13,14 @@ use Rattle.tap_trace.specs.declared.turn.TurnText.TheVariants as text
 use Rattle.tap_trace.specs.declared.trace.PositionList.{PositionList}
 use Rattle.tap_trace.specs.declared.trace.RingPart.{RingPart}
 use Rattle.tap_world.specs.ByNumber.{at, numbered}
-use Rattle.tap_world.specs.Guests.{Vhost, is_ring, new_vhost}
+use Rattle.tap_world.specs.Guests.{Vhost, is_ring}
 use Rattle.tap_world.specs.Project.{ring_parts}
 use Rattle.tap_legal.specs.Numbered.{AnswerAt, Asked, EntryAt, GuestAt, RingAt, StepAt, Told}
 use Rattle.tap_legal.specs.Codes.{same_answer}
 use Rattle.tap_legal.specs.Case.{Case, fails_as, fails_each, fails_missing, fails_order, of_answer, of_step}
 use Rattle.tap_legal.specs.Lookups.{asked_at, is_before}
-use Rattle.tap_legal.specs.Takes.{copies_of, has_guest}
 use Rattle.tap_legal.specs.Replay.{Replay, vhost_named}
-use Rattle.tap_legal.specs.ReplayTurns.{replay}
-
--- ---- the replays
-
--- an entry went through a receive turn, and through one on this guest
-abbrev pub is_packet : Fate → Bool
-is_packet fate.Guest = true
-is_packet (fate.Discarded (cause.Overrun need quota had)) = true
-is_packet other = false
-
-abbrev pub is_packet_on : Case → ℕ → EntryAt → Bool
-is_packet_on c guest e = not (has_guest e.at.fate) || list_any (λ (s : StepAt). s.guest == guest) (copies_of c e.at.name)
-
--- the vhosts of a guest, as they begin
-abbrev pub vhosts_on : ℕ → List (Option ℕ) → List (Option Vhost)
-vhosts_on guest [] = []
-vhosts_on guest (g ∷ gs) =
-    option_map_or (λ x. if x == guest then Some (new_vhost x) else None) g None ∷ vhosts_on guest gs
-
-abbrev pub fresh : Case → ℕ → List Region → List EntryAt → Replay
-fresh c guest regions entries = record {
-  memory = zeroed regions;
-  vhosts = vhosts_on guest c.setup.vhosts;
-  under = [];
-  entries = filter (is_packet_on c guest) entries;
-  accepted = [];
-  files = [];
-  finished = [];
-  fails = [];
-  fate_fails = [];
-  broken = false;
-}
-
-abbrev pub replay_of : Case → ℕ × List Region → List EntryAt → Replay
-replay_of c g entries = replay c (filter (λ (s : StepAt). s.guest == g.0) c.steps) (fresh c g.0 g.1 entries)
-
--- guest by guest; what one leaves of the overruns is for the next
-abbrev pub replays_from : Case → List (ℕ × List Region) → List EntryAt → List (ℕ × Replay)
-replays_from c [] entries = []
-replays_from c (g ∷ gs) entries =
-    let r : Replay = replay_of c g entries in
-    let others : List EntryAt = filter (λ e. not (is_packet_on c g.0 e)) entries in
-    (g.0, r) ∷ replays_from c gs (others ++ r.entries)
-
-abbrev pub replays : Case → List (ℕ × Replay)
-replays c = replays_from c (numbered 0 c.setup.guests) (filter (λ (e : EntryAt). is_packet e.at.fate) c.entries)
+use Rattle.tap_legal.specs.Replays.{Replays, files_of, is_whole}
 
 -- ---- guests and steps
 
@@ -107,10 +57,10 @@ guest_named c k = option_map_or (λ v. at c.setup.vhosts v) (vhost_named k) None
 abbrev pub is_finished : ℕ → Asked → ℕ × Replay → Bool
 is_finished guest a r = not (r.0 == guest) || r.1.broken || list_any (λ n. n == a.told.command) r.1.finished
 
-abbrev pub has_its_steps : Case → List (ℕ × Replay) → Asked → Bool
+abbrev pub has_its_steps : Case → Replays → Asked → Bool
 has_its_steps c rs a =
     not (has_steps a.command)
-    || option_map_or (λ g. not (list_any (λ r. not (is_finished g a r)) rs)) (guest_named c a.command) true
+    || option_map_or (λ g. not (list_any (λ r. not (is_finished g a r)) rs.0)) (guest_named c a.command) true
 
 abbrev pub answers_no_ring : AnswerAt → Bool
 answers_no_ring a =
@@ -120,12 +70,10 @@ answers_no_ring a =
 abbrev pub is_need : ℕ → ℕ → EntryAt → Bool
 is_need file need e = e.file == file && (e.at.len + 10 == need || e.at.len + 12 == need)
 
-abbrev pub is_short_of : Case → ℕ → ℕ → ℕ × ℕ → Bool
-is_short_of c command need t = t.0 == command && list_any (is_need t.1 need) c.entries
-
-abbrev pub fits_short : Case → List (ℕ × Replay) → ℕ → Answer → Bool
+abbrev pub fits_short : Case → Replays → ℕ → Answer → Bool
 fits_short c rs command (answer.Turn packets bytes (text.Short need had) chains) =
-    nat_lt had need && list_any (λ r. r.1.broken || list_any (is_short_of c command need) r.1.files) rs
+    nat_lt had need
+    && (not (is_whole rs) || list_any (λ file. list_any (is_need file need) c.entries) (files_of command rs))
 fits_short c rs command other = true
 
 -- ---- rings
@@ -160,19 +108,16 @@ abbrev pub vhost_left : ℕ → List (ℕ × Replay) → Option Vhost
 vhost_left vhost [] = None
 vhost_left vhost (r ∷ rs) = option_map_or (λ v. Some v) (at r.1.vhosts vhost) (vhost_left vhost rs)
 
-abbrev pub rings_wanted : Case → List (ℕ × Replay) → List RingPart
+abbrev pub rings_wanted : Case → Replays → List RingPart
 rings_wanted c rs =
-    flat_map (λ v. option_map_or (λ x. ring_parts (v.0, x)) (vhost_left v.0 rs) []) (numbered 0 c.setup.vhosts)
-
-abbrev pub is_whole : List (ℕ × Replay) → Bool
-is_whole rs = not (list_any (λ r. r.1.broken) rs)
+    flat_map (λ v. option_map_or (λ x. ring_parts (v.0, x)) (vhost_left v.0 rs.0) []) (numbered 0 c.setup.vhosts)
 
 -- ---- the clause
 
-abbrev pub g_fails : Case → List (ℕ × Replay) → List ℕ
+abbrev pub g_fails : Case → Replays → List ℕ
 g_fails c rs =
     fails_as c.end is_guest (λ (l : GuestAt). l.line) (numbered 0 c.setup.guests) c.guests
-    ++ flat_map (λ r. r.1.fails) rs
+    ++ flat_map (λ (r : ℕ × Replay). r.1.fails) rs.0
     ++ fails_order of_step (steps_follow c) c.steps
     ++ fails_missing c (has_its_steps c rs) c.asked
     ++ fails_each of_answer answers_no_ring c.answers

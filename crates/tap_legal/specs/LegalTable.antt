@@ -1,5 +1,5 @@
 -- This project's own, clause a of a legal trace: operations, refusals by the table, and learnings.
-use Rattle.std.specs.Prelude.{ℕ, zero, suc, ◌+◌, ◌-◌, ◌==◌, ◌&&◌, ◌||◌, not, nat_lt, nat_le, if◌then◌else◌, Bool, true, false, List, [], ◌∷◌, ◌++◌, length, map, filter, option_map, is_some, is_none, Option, Some, None}
+use Rattle.std.specs.Prelude.{ℕ, zero, suc, ◌+◌, ◌-◌, ◌==◌, ◌&&◌, ◌||◌, not, nat_lt, nat_le, if◌then◌else◌, Bool, true, false, List, [], ◌∷◌, ◌++◌, length, map, filter, flat_map, option_map, is_some, is_none, Option, Some, None}
 use Rattle.std.specs.List.{list_any, list_all}
 use Rattle.std.specs.Option.{option_map_or}
 use Rattle.tap_flow_key.specs.FlowKey.{hash}
@@ -22,6 +22,7 @@ use Rattle.tap_world.specs.Setup.{op_of}
 use Rattle.tap_legal.specs.Numbered.{AnswerAt, Asked, OpAt, Told}
 use Rattle.tap_legal.specs.Same.{same_op, same_refusal}
 use Rattle.tap_legal.specs.Case.{Case, fails_each, fails_order, of_answer, of_op}
+use Rattle.tap_legal.specs.Replays.{Replays, files_of, flows_of, was_replayed}
 use Rattle.tap_legal.specs.Lookups.{answer_of, asked_at, op_at, ops_of, seen_before, some_version, table_at}
 
 -- ---- operations
@@ -139,10 +140,44 @@ may_learn c a (Some (command.Write file bytes)) =
        (λ v. if learnt then learns (table_at c v) file else not (learns (table_at c v) file))
 may_learn c a other = true
 
+-- ---- learnings of transmit turns, where the replay reached the turn's end
+
+abbrev pub hash_in : Option Op → ℕ
+hash_in (Some (op.Learn file h)) = h
+hash_in other = 0
+
+-- Each learning is of an accepted frame, in order, at most one for each.
+abbrev pub unmatched : List ℕ → List OpAt → List ℕ
+unmatched [] os = map of_op os
+unmatched (f ∷ fs) [] = []
+unmatched (f ∷ fs) (o ∷ os) = unmatched fs (if f == hash_in o.op then os else o ∷ os)
+
+abbrev pub learnt_by : Case → ℕ → List OpAt
+learnt_by c command = filter (λ (o : OpAt). is_learning o.op) (ops_of c command)
+
+-- A frame has one only where its file learns at a version from what was seen before up to SEEN, and lacks one only where
+-- it doesn't at such a version.
+abbrev pub may_learn_on : Case → AnswerAt → ℕ → ℕ → ℕ → Bool
+may_learn_on c a frames learnt file =
+    (learnt == 0 || some_version (seen_before c a.told) a.seen (λ v. learns (table_at c v) file))
+    && (nat_le frames learnt || some_version (seen_before c a.told) a.seen (λ v. not (learns (table_at c v) file)))
+
+abbrev pub turn_learns : Case → Replays → AnswerAt → Bool
+turn_learns c rs a =
+    let frames : ℕ = length (flows_of a.told.command rs) in
+    not (list_any (λ file. not (may_learn_on c a frames (length (learnt_by c a.told.command)) file)) (files_of a.told.command rs))
+
+abbrev pub turn_fails : Case → Replays → AnswerAt → Option Command → List ℕ
+turn_fails c rs a (Some (command.TxTurn vhost)) =
+    if was_replayed a.told.command rs
+    then unmatched (flows_of a.told.command rs) (learnt_by c a.told.command) ++ (if turn_learns c rs a then [] else a.line ∷ [])
+    else []
+turn_fails c rs a other = []
+
 -- ---- the clause
 
-abbrev pub a_fails : Case → List ℕ
-a_fails c =
+abbrev pub a_fails : Case → Replays → List ℕ
+a_fails c rs =
     fails_versions 1 c.ops
     ++ fails_each of_op (is_lawful c) c.ops
     ++ fails_each of_op (is_of_phase c) c.ops
@@ -152,3 +187,4 @@ a_fails c =
     ++ fails_each of_op (is_of_frame c) c.ops
     ++ fails_order of_op (is_other_frame c) c.ops
     ++ fails_each of_answer (λ a. may_learn c a a.asked) c.answers
+    ++ flat_map (λ (a : AnswerAt). turn_fails c rs a a.asked) c.answers

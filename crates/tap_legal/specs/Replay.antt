@@ -68,7 +68,7 @@ pub record Accepted : Type 0 where
   pub flow : ℕ
 
 -- the memory, the vhosts, the turns under way, the entries that turns are still to take, the frames that were accepted, the
--- receive turns with their files, the commands that are done, and the lines that fail in this clause and in that on
+-- turns with their files, the commands that are done, and the lines that fail in this clause and in that on
 -- fates; after a step that can't be, no more is replayed
 pub record Replay : Type 0 where
   pub memory : Contents

@@ -175,7 +175,7 @@ begun c s vhost ring v (Some told) r =
     Some (if_step s (Some told.1) r (answers c s.at.command (answer.Turn 0 0 told.0 []) r))
 begun c s vhost ring v None r =
     let u : Under = record { vhost = vhost; command = s.at.command; file = file_on ring v; turning = turn_begun ring s.at.command s.at.actor v } in
-    step_of c s u u.turning v (record r { files = r.files ++ (if ring == 0 then (s.at.command, u.file) ∷ [] else []) })
+    step_of c s u u.turning v (record r { files = r.files ++ (s.at.command, u.file) ∷ [] })
 
 -- the next step of the command's turn, or its first one, where no other turn is under way on the ring
 abbrev pub turn_step : Case → StepAt → ℕ → ℕ → Vhost → Option Under → Replay → Option Replay

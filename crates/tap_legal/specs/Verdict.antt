@@ -12,8 +12,8 @@ use Rattle.tap_legal.specs.LegalLines.{c_fails}
 use Rattle.tap_legal.specs.LegalFull.{d_fails}
 use Rattle.tap_legal.specs.LegalGone.{e_fails}
 use Rattle.tap_legal.specs.LegalNotReady.{f_fails}
-use Rattle.tap_legal.specs.LegalGuests.{g_fails, replays}
-use Rattle.tap_legal.specs.Replay.{Replay}
+use Rattle.tap_legal.specs.LegalGuests.{g_fails}
+use Rattle.tap_legal.specs.Replays.{Replays, replays}
 use Rattle.tap_legal.specs.LegalFates.{h_fails}
 
 -- a clause with the lines at which it fails
@@ -25,10 +25,10 @@ first_failing [] = None
 first_failing ((letter, []) ∷ more) = first_failing more
 first_failing ((letter, line ∷ lines) ∷ more) = Some (letter, fold min line lines)
 
-abbrev pub failing : Case → List (ℕ × Replay) → List Failing
+abbrev pub failing : Case → Replays → List Failing
 failing c rs =
-    (clause.A, a_fails c) ∷ (clause.B, b_fails c) ∷ (clause.C, c_fails c) ∷ (clause.D, d_fails c)
-    ∷ (clause.E, e_fails c) ∷ (clause.F, f_fails c) ∷ (clause.G, g_fails c rs) ∷ (clause.H, h_fails c) ∷ []
+    (clause.A, a_fails c rs) ∷ (clause.B, b_fails c) ∷ (clause.C, c_fails c) ∷ (clause.D, d_fails c)
+    ∷ (clause.E, e_fails c) ∷ (clause.F, f_fails c rs) ∷ (clause.G, g_fails c rs) ∷ (clause.H, h_fails c rs) ∷ []
 
 abbrev pub judged : Case → Option (Clause × ℕ)
 judged c = first_failing (failing c (replays c))
