@@ -12,8 +12,8 @@ use Rattle.tap_ledger.specs.declared.fate.Fate.{Fate}
 use Rattle.tap_ledger.specs.declared.fate.Fate.TheVariants as fate
 use Rattle.tap_ledger.specs.declared.fate.Cause.TheVariants as cause
 use Rattle.tap_legal.specs.Numbered.{AnswerAt, Asked, EntryAt, FileAt, StepAt, Told}
-use Rattle.tap_legal.specs.Replay.{Replay}
-use Rattle.tap_legal.specs.Replays.{Replays, is_whole}
+use Rattle.tap_legal.specs.Replay.{Packet, Replay}
+use Rattle.tap_legal.specs.Replays.{Replays, are_of_one, is_whole, packets_of}
 use Rattle.tap_legal.specs.Case.{Case, fails_each, of_answer, of_entry, of_file, of_step}
 use Rattle.tap_legal.specs.Lookups.{answer_of, asked_at, same_name}
 use Rattle.tap_legal.specs.Takes.{copied, copies_of, has_guest, readers, was_read}
@@ -79,15 +79,34 @@ fits_overrun len (fate.Discarded (cause.Overrun need quota had)) =
     nat_lt had need && (need == len + 10 || need == len + 12) && (quota == 1 || quota == 1024)
 fits_overrun len other = true
 
--- Packets of all receive turns on a file are its `guest` and `overrun` entries.
-abbrev pub has_packets : Replays → FileAt → Bool
-has_packets rs f = not (list_any (λ (e : EntryAt). e.file == f.part.file) rs.1)
+-- Entries and packets match in the order of places: a copied frame has fate `guest`; NEED and QUOTA of an overrun are
+-- those of the settings, and HAD is the bytes of its chains, as the replay has them.
+abbrev pub fits_packet : Packet → EntryAt → Fate → Option Name → Bool
+fits_packet p e fate.Guest (Some name) = same_name e.at.name name
+fits_packet p e (fate.Discarded (cause.Overrun need quota had)) None =
+    need == p.header + e.at.len && quota == p.quota && had == p.had
+fits_packet p e other name = false
 
--- NEED and QUOTA of an `overrun` are those of the settings, and HAD is the bytes of its chains, as the replay has them.
-abbrev pub packets_fail : Case → Replays → List ℕ
-packets_fail c rs =
-    flat_map (λ (r : ℕ × Replay). r.1.fate_fails) rs.0
-    ++ (if is_whole rs then fails_each of_file (has_packets rs) c.files else [])
+abbrev pub packets_fail : List EntryAt → List Packet → List ℕ
+packets_fail [] ps = []
+packets_fail (e ∷ es) [] = []
+packets_fail (e ∷ es) (p ∷ ps) = (if fits_packet p e e.at.fate p.name then [] else e.line ∷ []) ++ packets_fail es ps
+
+abbrev pub is_packet : Fate → Bool
+is_packet fate.Guest = true
+is_packet (fate.Discarded (cause.Overrun need quota had)) = true
+is_packet other = false
+
+abbrev pub packet_entries : Case → ℕ → List EntryAt
+packet_entries c file = filter (λ (e : EntryAt). e.file == file && is_packet e.at.fate) c.entries
+
+-- Packets of all receive turns on a file are its `guest` and `overrun` entries.
+abbrev pub has_packets : Case → Replays → FileAt → Bool
+has_packets c rs f = length (packet_entries c f.part.file) == length (packets_of f.part.file rs)
+
+abbrev pub file_packets_fail : Case → Replays → FileAt → List ℕ
+file_packets_fail c rs f =
+    if are_of_one f.part.file rs then packets_fail (packet_entries c f.part.file) (packets_of f.part.file rs) else []
 
 -- ---- the clause
 
@@ -99,4 +118,4 @@ h_fails c rs =
     ++ fails_each of_step (copies_sent c) c.steps
     ++ fails_each of_entry (is_taken_once c) c.entries
     ++ fails_each of_entry (λ (e : EntryAt). fits_overrun e.at.len e.at.fate) c.entries
-    ++ packets_fail c rs
+    ++ (if is_whole rs then fails_each of_file (has_packets c rs) c.files ++ flat_map (file_packets_fail c rs) c.files else [])

@@ -60,7 +60,7 @@ is_finished guest a r = not (r.0 == guest) || r.1.broken || list_any (λ n. n ==
 abbrev pub has_its_steps : Case → Replays → Asked → Bool
 has_its_steps c rs a =
     not (has_steps a.command)
-    || option_map_or (λ g. not (list_any (λ r. not (is_finished g a r)) rs.0)) (guest_named c a.command) true
+    || option_map_or (λ g. not (list_any (λ r. not (is_finished g a r)) rs)) (guest_named c a.command) true
 
 abbrev pub answers_no_ring : AnswerAt → Bool
 answers_no_ring a =
@@ -110,14 +110,14 @@ vhost_left vhost (r ∷ rs) = option_map_or (λ v. Some v) (at r.1.vhosts vhost)
 
 abbrev pub rings_wanted : Case → Replays → List RingPart
 rings_wanted c rs =
-    flat_map (λ v. option_map_or (λ x. ring_parts (v.0, x)) (vhost_left v.0 rs.0) []) (numbered 0 c.setup.vhosts)
+    flat_map (λ v. option_map_or (λ x. ring_parts (v.0, x)) (vhost_left v.0 rs) []) (numbered 0 c.setup.vhosts)
 
 -- ---- the clause
 
 abbrev pub g_fails : Case → Replays → List ℕ
 g_fails c rs =
     fails_as c.end is_guest (λ (l : GuestAt). l.line) (numbered 0 c.setup.guests) c.guests
-    ++ flat_map (λ (r : ℕ × Replay). r.1.fails) rs.0
+    ++ flat_map (λ (r : ℕ × Replay). r.1.fails) rs
     ++ fails_order of_step (steps_follow c) c.steps
     ++ fails_missing c (has_its_steps c rs) c.asked
     ++ fails_each of_answer answers_no_ring c.answers

@@ -1,6 +1,6 @@
 -- This project's own, of clause g of a legal trace: the steps on a guest as one fold, from zeros, the first settings and
 -- no drivers. A turn is replayed by the steps of its worker; which frames it had in hand is read off the file's line.
-use Rattle.std.specs.Prelude.{ℕ, ◌+◌, ◌-◌, ◌^◌, ◌==◌, ◌&&◌, ◌||◌, not, nat_lt, nat_le, if◌then◌else◌, Bool, true, false, List, [], ◌∷◌, ◌++◌, length, map, filter, replicate, find, Option, Some, None, is_none, is_some, option_map, option_and_then}
+use Rattle.std.specs.Prelude.{ℕ, zero, suc, ◌+◌, ◌-◌, ◌^◌, ◌==◌, ◌&&◌, ◌||◌, not, nat_lt, nat_le, if◌then◌else◌, Bool, true, false, List, [], ◌∷◌, ◌++◌, length, map, filter, replicate, find, Option, Some, None, is_none, is_some, option_map, option_and_then}
 use Rattle.std.specs.List.{list_any}
 use Rattle.std.specs.Option.{option_map_or}
 use Rattle.guest_mem.specs.Memory.{Contents, first_bad, written}
@@ -22,7 +22,7 @@ use Rattle.vring_turns.specs.declared.stage.RxStage.TheVariants as rx
 use Rattle.vring_turns.specs.declared.stage.TxStage.{TxStage}
 use Rattle.vring_turns.specs.declared.stage.TxStage.TheVariants as tx
 use Rattle.vring_turns.specs.ReceiveImage.{need_of}
-use Rattle.vring_turns.specs.RxTurn.{RxState, RxTurn, overrun, rx_begun, rx_step}
+use Rattle.vring_turns.specs.RxTurn.{RxTurn, quota}
 use Rattle.vring_turns.specs.TxTurn.{TxState, TxTurn, tx_begun, tx_step}
 use Rattle.tap_steer.specs.Table.{Table}
 use Rattle.tap_steer.specs.Select.{shape_of}
@@ -47,7 +47,7 @@ use Rattle.tap_world.specs.StepTurns.{chains_after, end_told, is_off, kind_of, r
 use Rattle.tap_legal.specs.Numbered.{AnswerAt, Asked, EntryAt, StepAt}
 use Rattle.tap_legal.specs.Codes.{same_answer, same_kind}
 use Rattle.tap_legal.specs.Case.{Case}
-use Rattle.tap_legal.specs.Lookups.{answer_of, asked_at, same_name, table_at}
+use Rattle.tap_legal.specs.Lookups.{answer_of, asked_at, entry_named, table_at}
 
 -- ---- the state of a replay
 
@@ -67,19 +67,26 @@ pub record Accepted : Type 0 where
   pub command : ℕ
   pub flow : ℕ
 
--- the memory, the vhosts, the turns under way, the entries that turns are still to take, the frames that were accepted, the
--- turns with their files, the commands that are done, and the lines that fail in this clause and in that on
--- fates; after a step that can't be, no more is replayed
+-- a packet of a receive turn on a file: the frame that was copied, or an overrun with the header's size, the chains that
+-- it might have, and the bytes that they held
+pub record Packet : Type 0 where
+  pub file : ℕ
+  pub name : Option Name
+  pub header : ℕ
+  pub quota : ℕ
+  pub had : ℕ
+
+-- the memory, the vhosts, the turns under way, the packets, the frames that were accepted, the turns with their files, the
+-- commands that are done, and the lines that fail; after a step that can't be, no more is replayed
 pub record Replay : Type 0 where
   pub memory : Contents
   pub vhosts : List (Option Vhost)
   pub under : List Under
-  pub entries : List EntryAt
+  pub packets : List Packet
   pub accepted : List Accepted
   pub files : List (ℕ × ℕ)
   pub finished : List ℕ
   pub fails : List ℕ
-  pub fate_fails : List ℕ
   pub broken : Bool
 
 -- the line fails, and the replay ends there
@@ -169,33 +176,66 @@ replay_back c s (command.Backend vhost ring file) r = do
     else None
 replay_back c s other r = None
 
--- ---- what a receive turn had in hand
+-- ---- what a receive turn had in hand, read off the steps that come
 
--- the frame of an entry
-abbrev pub frame_of_entry : Case → EntryAt → Option FrameValue
-frame_of_entry c e =
-    option_map (λ (f : FrameText). record { name = e.at.name; hdr = f.hdr; made = f.ether; mark = length f.ether })
-    (frame_of c.setup e.at.name e.at.len)
+-- the frame of this name is copied; a frame is put back, or is too long; or none is ready
+pub data Coming : Type 0 where
+  Copies : Name → Coming
+  StaysOrRunsOver : Coming
+  NoFrame : Coming
 
--- a frame that was put back: of a Short its length is told, of a stopped ring it is as long as it may be
+-- with so many more chains that it may gather; the `notices` of a second fetch stand between it and the copy
+abbrev pub coming : ℕ → List Kind → Coming
+coming left [] = StaysOrRunsOver
+coming left (kind.Copy v ring position (Some name) ∷ ks) = Copies name
+coming zero (kind.Notices v ring on ∷ ks) = coming zero ks
+coming zero (k ∷ ks) = StaysOrRunsOver
+coming (suc left) (kind.Fetch v ring position head ∷ ks) = coming left ks
+coming (suc left) (kind.None v ring ∷ ks) = coming (suc left) ks
+coming (suc left) (kind.Notices v ring on ∷ ks) = coming (suc left) ks
+coming (suc left) (k ∷ ks) = StaysOrRunsOver
+
+-- a frame in hand has a fetch next
+abbrev pub is_fetch : Kind → Bool
+is_fetch (kind.Fetch v ring position head) = true
+is_fetch (kind.None v ring) = true
+is_fetch (kind.Crowded v ring) = true
+is_fetch (kind.Halt v ring fault) = true
+is_fetch other = false
+
+abbrev pub coming_first : ℕ → List Kind → Coming
+coming_first left [] = NoFrame
+coming_first left (k ∷ ks) = if is_fetch k then coming left (k ∷ ks) else NoFrame
+
+-- the frame of a name, as it was placed
+abbrev pub frame_named : Case → Name → Option FrameValue
+frame_named c name = do
+  e ← entry_named c name
+  f ← frame_of c.setup name e.at.len
+  Some (record { name = name; hdr = f.hdr; made = f.ether; mark = length f.ether })
+
+-- a frame that isn't copied: of a Short its length is told, and else it is as long as it may be
 abbrev pub frame_of_length : ℕ → FrameValue
 frame_of_length len = record { name = name_of 0 0; hdr = []; made = []; mark = len }
 
-abbrev pub hand_at_end : ℕ → TurnText → Hand
-hand_at_end header text.Idle = hand.NotReady 0
-hand_at_end header (text.Short need had) = hand.Got (frame_of_length (need - header))
-hand_at_end header (text.Stopped fault) = hand.Got (frame_of_length (2 ^ 32))
-hand_at_end header other = hand.Off
+-- what the turn needed last, where it ended for want of chains
+abbrev pub short_of : ℕ → Answer → Option ℕ
+short_of left (answer.Turn packets bytes (text.Short need had) chains) = only_if (left == packets) need
+short_of left other = None
 
--- the next entry of the file, until the turn has as many packets as it answers
-abbrev pub next_entry : ℕ → List EntryAt → Option EntryAt
-next_entry file es = find (λ (e : EntryAt). e.file == file) es
+abbrev pub length_told : Case → ℕ → RxTurn → ℕ
+length_told c command t =
+    option_map_or (λ need. need - t.header)
+    (option_map_or (λ (a : AnswerAt). short_of t.packets a.answer) (answer_of c command) None) (2 ^ 32)
 
-abbrev pub hand_by : Case → ℕ → RxTurn → List EntryAt → Answer → Hand
-hand_by c file t es (answer.Turn packets bytes end chains) =
-    if t.packets == packets then hand_at_end t.header end
-    else option_map_or (λ f. hand.Got f) (option_and_then (frame_of_entry c) (next_entry file es)) hand.Off
-hand_by c file t es other = hand.Off
+abbrev pub hand_of : Case → ℕ → RxTurn → Coming → Hand
+hand_of c command t (Copies name) = option_map_or (λ f. hand.Got f) (frame_named c name) hand.Off
+hand_of c command t StaysOrRunsOver = hand.Got (frame_of_length (length_told c command t))
+hand_of c command t NoFrame = hand.NotReady 0
 
-abbrev pub hand_for : Case → Under → RxTurn → Replay → Hand
-hand_for c u t r = option_map_or (λ (a : AnswerAt). hand_by c u.file t r.entries a.answer) (answer_of c u.command) hand.Off
+-- the kinds of the command's steps to come
+abbrev pub ahead : ℕ → List StepAt → List Kind
+ahead command ss = map (λ (s : StepAt). s.at.kind) (filter (λ (s : StepAt). s.at.command == command) ss)
+
+abbrev pub hand_for : Case → Under → RxTurn → List StepAt → Hand
+hand_for c u t ss = hand_of c u.command t (coming_first (quota t.mergeable) (ahead u.command ss))

@@ -23,7 +23,7 @@ use Rattle.vring_turns.specs.declared.stage.RxStage.TheVariants as rx
 use Rattle.vring_turns.specs.declared.stage.TxStage.{TxStage}
 use Rattle.vring_turns.specs.declared.stage.TxStage.TheVariants as tx
 use Rattle.vring_turns.specs.ReceiveImage.{need_of}
-use Rattle.vring_turns.specs.RxTurn.{RxState, RxTurn, overrun, rx_begun, rx_step}
+use Rattle.vring_turns.specs.RxTurn.{RxState, RxTurn, quota, rx_begun, rx_step}
 use Rattle.vring_turns.specs.TxTurn.{TxState, TxTurn, tx_begun, tx_step}
 use Rattle.scen_words.specs.declared.command.Command.{Command}
 use Rattle.tap_trace.specs.declared.answer.Answer.{Answer}
@@ -39,7 +39,7 @@ use Rattle.tap_world.specs.StepTurns.{chains_after, end_told, is_off, kind_of, r
 use Rattle.tap_legal.specs.Numbered.{AnswerAt, Asked, EntryAt, StepAt}
 use Rattle.tap_legal.specs.Case.{Case}
 use Rattle.tap_legal.specs.Lookups.{answer_of, asked_at}
-use Rattle.tap_legal.specs.Replay.{Accepted, Replay, Turning, Under, answers, broken_at, hand_for, if_step, next_entry, replay_back, replay_bytes, replay_call}
+use Rattle.tap_legal.specs.Replay.{Accepted, Packet, Replay, Turning, Under, answers, broken_at, hand_for, if_step, replay_back, replay_bytes, replay_call}
 use Rattle.tap_legal.specs.Replay.Turning.{Receiving, Sending}
 
 -- ---- turns under way
@@ -95,28 +95,21 @@ tx_left c u chains v r made =
 
 -- ---- steps that aren't printed
 
--- the fate that an entry gets as it leaves the worker's hand
-abbrev pub leaves_at : RxTurn → RxStage → Option Fate
-leaves_at t rx.Out = Some fate.Guest
-leaves_at t (rx.Discard had) = Some (overrun t.mergeable (option_map_or (need_of t.header) t.held 0) had)
-leaves_at t other = None
-
-abbrev pub same_fate : Fate → Fate → Bool
-same_fate fate.Guest fate.Guest = true
-same_fate (fate.Discarded (cause.Overrun need quota had)) (fate.Discarded (cause.Overrun n q h)) =
-    need == n && quota == q && had == h
-same_fate a b = false
-
--- the entry leaves, and has this fate
-abbrev pub with_taken : EntryAt → Fate → Replay → Replay
-with_taken e f r = record r {
-  entries = filter (λ (x : EntryAt). not (x.line == e.line)) r.entries;
-  fate_fails = r.fate_fails ++ (if same_fate e.at.fate f then [] else e.line ∷ []);
-}
+-- the packet that is over as its frame leaves the worker's hand
+abbrev pub packet_at : Under → RxTurn → RxStage → List Packet
+packet_at u t rx.Out = record {
+  file = u.file;
+  name = option_map (λ (f : FrameValue). f.name) t.held;
+  header = t.header;
+  quota = quota t.mergeable;
+  had = 0;
+} ∷ []
+packet_at u t (rx.Discard had) =
+    record { file = u.file; name = None; header = t.header; quota = quota t.mergeable; had = had } ∷ []
+packet_at u t other = []
 
 abbrev pub taken : Under → RxTurn → Replay → Replay
-taken u t r =
-    option_map_or (λ f. option_map_or (λ e. with_taken e f r) (next_entry u.file r.entries) r) (leaves_at t t.stage) r
+taken u t r = record r { packets = r.packets ++ packet_at u t t.stage }
 
 abbrev pub is_quiet_rx : RxStage → Bool
 is_quiet_rx rx.Hand = true
@@ -133,33 +126,34 @@ is_quiet_tx other = false
 abbrev pub fails_at_answer : Case → ℕ → Replay → Replay
 fails_at_answer c command r = option_map_or (λ (a : AnswerAt). broken_at a.line r) (answer_of c command) (broken_at c.end r)
 
-abbrev pub quiet_of : Case → Under → Turning → Vhost → Replay → Replay
-quiet_of c u (Receiving t) v r =
+abbrev pub quiet_of : Case → List StepAt → Under → Turning → Vhost → Replay → Replay
+quiet_of c ss u (Receiving t) v r =
     if is_quiet_rx t.stage
-    then option_map_or (λ made. rx_left c u v (taken u t r) made) (rx_step (hand_for c u t r) (rx_state t v r.memory)) (fails_at_answer c u.command r)
+    then option_map_or (λ made. rx_left c u v (taken u t r) made) (rx_step (hand_for c u t ss) (rx_state t v r.memory))
+      (fails_at_answer c u.command r)
     else r
-quiet_of c u (Sending t chains) v r =
+quiet_of c ss u (Sending t chains) v r =
     if is_quiet_tx t.stage
     then option_map_or (λ made. tx_left c u chains v r made) (tx_step (tx_state t v r.memory)) (fails_at_answer c u.command r)
     else r
 
 -- one of them, where the turn on a ring is before one; there are at most two in a row
-abbrev pub quiet : Case → ℕ → ℕ → Replay → Replay
-quiet c vhost ring r =
-    option_map_or (λ u. option_map_or (λ v. quiet_of c u u.turning v r) (at r.vhosts vhost) r) (under_on vhost ring r) r
+abbrev pub quiet : Case → List StepAt → ℕ → ℕ → Replay → Replay
+quiet c ss vhost ring r =
+    option_map_or (λ u. option_map_or (λ v. quiet_of c ss u u.turning v r) (at r.vhosts vhost) r) (under_on vhost ring r) r
 
-abbrev pub quietly : Case → ℕ → ℕ → Replay → Replay
-quietly c vhost ring r = if r.broken then r else quiet c vhost ring (quiet c vhost ring r)
+abbrev pub quietly : Case → List StepAt → ℕ → ℕ → Replay → Replay
+quietly c ss vhost ring r = if r.broken then r else quiet c ss vhost ring (quiet c ss vhost ring r)
 
 -- ---- steps that are printed
 
-abbrev pub step_of : Case → StepAt → Under → Turning → Vhost → Replay → Option Replay
-step_of c s u (Receiving t) v r = do
+abbrev pub step_of : Case → StepAt → List StepAt → Under → Turning → Vhost → Replay → Option Replay
+step_of c s ss u (Receiving t) v r = do
   made ← rx_step hand.Off (rx_state t v r.memory)
-  Some (if_step s (kind_of u.vhost 0 made.1) r (quietly c u.vhost 0 (rx_left c u v r made)))
-step_of c s u (Sending t chains) v r = do
+  Some (if_step s (kind_of u.vhost 0 made.1) r (quietly c ss u.vhost 0 (rx_left c u v r made)))
+step_of c s ss u (Sending t chains) v r = do
   made ← tx_step (tx_state t v r.memory)
-  Some (if_step s (kind_of u.vhost 1 made.1) r (quietly c u.vhost 1 (tx_left c u chains v r made)))
+  Some (if_step s (kind_of u.vhost 1 made.1) r (quietly c ss u.vhost 1 (tx_left c u chains v r made)))
 
 -- a turn begins: without a backend, or on a stopped ring, it is over at once
 abbrev pub turn_begun : ℕ → ℕ → ℕ → Vhost → Turning
@@ -170,24 +164,24 @@ turn_begun ring command actor v =
 abbrev pub file_on : ℕ → Vhost → ℕ
 file_on ring v = option_map_or (λ f. f) (if ring == 0 then v.settings.rx.file else v.settings.tx.file) 0
 
-abbrev pub begun : Case → StepAt → ℕ → ℕ → Vhost → Option (TurnText × Kind) → Replay → Option Replay
-begun c s vhost ring v (Some told) r =
+abbrev pub begun : Case → StepAt → List StepAt → ℕ → ℕ → Vhost → Option (TurnText × Kind) → Replay → Option Replay
+begun c s ss vhost ring v (Some told) r =
     Some (if_step s (Some told.1) r (answers c s.at.command (answer.Turn 0 0 told.0 []) r))
-begun c s vhost ring v None r =
+begun c s ss vhost ring v None r =
     let u : Under = record { vhost = vhost; command = s.at.command; file = file_on ring v; turning = turn_begun ring s.at.command s.at.actor v } in
-    step_of c s u u.turning v (record r { files = r.files ++ (s.at.command, u.file) ∷ [] })
+    step_of c s ss u u.turning v (record r { files = r.files ++ (s.at.command, u.file) ∷ [] })
 
 -- the next step of the command's turn, or its first one, where no other turn is under way on the ring
-abbrev pub turn_step : Case → StepAt → ℕ → ℕ → Vhost → Option Under → Replay → Option Replay
-turn_step c s vhost ring v (Some u) r = if u.command == s.at.command then step_of c s u u.turning v r else None
-turn_step c s vhost ring v None r =
-    if list_any (λ n. n == s.at.command) r.finished then None else begun c s vhost ring v (is_off vhost ring v) r
+abbrev pub turn_step : Case → StepAt → List StepAt → ℕ → ℕ → Vhost → Option Under → Replay → Option Replay
+turn_step c s ss vhost ring v (Some u) r = if u.command == s.at.command then step_of c s ss u u.turning v r else None
+turn_step c s ss vhost ring v None r =
+    if list_any (λ n. n == s.at.command) r.finished then None else begun c s ss vhost ring v (is_off vhost ring v) r
 
-abbrev pub replay_turn : Case → StepAt → Command → Replay → Option Replay
-replay_turn c s k r = do
+abbrev pub replay_turn : Case → StepAt → List StepAt → Command → Replay → Option Replay
+replay_turn c s ss k r = do
   t ← turn_on k
   v ← at r.vhosts t.0
-  turn_step c s t.0 t.1 v (under_on t.0 t.1 r) r
+  turn_step c s ss t.0 t.1 v (under_on t.0 t.1 r) r
 
 -- ---- the fold
 
@@ -196,17 +190,17 @@ or_else None b = b
 or_else (Some a) b = Some a
 
 -- a step is one of its command's: of its turn, or the only one of its call
-abbrev pub replay_as : Case → StepAt → Command → Replay → Option Replay
-replay_as c s k r =
+abbrev pub replay_as : Case → StepAt → List StepAt → Command → Replay → Option Replay
+replay_as c s ss k r =
     if list_any (λ n. n == s.at.command) r.finished then None
-    else or_else (replay_turn c s k r) (or_else (replay_back c s k r) (or_else (replay_call c s k r) (replay_bytes c s k r)))
+    else or_else (replay_turn c s ss k r) (or_else (replay_back c s k r) (or_else (replay_call c s k r) (replay_bytes c s k r)))
 
-abbrev pub replay_step : Case → StepAt → Replay → Replay
-replay_step c s r =
+abbrev pub replay_step : Case → StepAt → List StepAt → Replay → Replay
+replay_step c s ss r =
     option_map_or (λ x. x)
-    (option_and_then (λ (a : Asked). if a.told.actor == s.at.actor then replay_as c s a.command r else None) (asked_at c s.at.command))
+    (option_and_then (λ (a : Asked). if a.told.actor == s.at.actor then replay_as c s ss a.command r else None) (asked_at c s.at.command))
     (broken_at s.line r)
 
 abbrev pub replay : Case → List StepAt → Replay → Replay
 replay c [] r = r
-replay c (s ∷ ss) r = replay c ss (if r.broken then r else replay_step c s r)
+replay c (s ∷ ss) r = replay c ss (if r.broken then r else replay_step c s ss r)
