@@ -10,7 +10,8 @@ use Rattle.tap_trace.specs.declared.trace.Trace.{Trace}
 use Rattle.tap_world.specs.Setup.{Setup, opening_table, setup_of}
 use Rattle.tap_legal.specs.Numbered.{AnswerAt, Asked, EntryAt, FileAt, GuestAt, OpAt, PhaseAt, RingAt, StepAt, answers_at, asked_from, behind_files, behind_guests, behind_phases, end_line, entries_of, files_at, guests_at, ops_at, phases_at, rings_at, steps_at}
 
--- what the scenario lays down and asks for; the lines of the trace; the table at each version, from 0 on; the line of `end`
+-- what the scenario lays down and asks for; the lines of the trace; the table at each version, from 0 on; the line of
+-- `end`
 pub record Case : Type 0 where
   pub setup : Setup
   pub asked : List Asked

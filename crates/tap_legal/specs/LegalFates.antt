@@ -1,4 +1,5 @@
--- This project's own, clause h of a legal trace: each accepted frame has one fate, and no other name stands in the trace.
+-- This project's own, clause h of a legal trace: each accepted frame has one fate, and no other name stands in the
+-- trace.
 use Rattle.std.specs.Prelude.{ℕ, ◌+◌, ◌==◌, ◌&&◌, ◌||◌, not, nat_lt, if◌then◌else◌, Bool, true, false, List, [], ◌∷◌, ◌++◌, length, filter, flat_map, is_none, Option, Some, None}
 use Rattle.std.specs.List.{list_any}
 use Rattle.std.specs.Option.{option_map_or}
@@ -32,7 +33,8 @@ is_accepted other = false
 -- the name is that of a frame that was sent and accepted
 abbrev pub is_sent : Case → Name → Bool
 is_sent c n =
-    option_map_or (λ (a : Asked). a.told.actor == n.actor && n.part == 0 && is_accepted a.command) (asked_at c n.turn) false
+    option_map_or (λ (a : Asked). a.told.actor == n.actor && n.part == 0 && is_accepted a.command)
+        (asked_at c n.turn) false
 
 -- ---- one fate
 
@@ -118,4 +120,5 @@ h_fails c rs =
     ++ fails_each of_step (copies_sent c) c.steps
     ++ fails_each of_entry (is_taken_once c) c.entries
     ++ fails_each of_entry (λ (e : EntryAt). fits_overrun e.at.len e.at.fate) c.entries
-    ++ (if is_whole rs then fails_each of_file (has_packets c rs) c.files ++ flat_map (file_packets_fail c rs) c.files else [])
+    ++ (if is_whole rs then fails_each of_file (has_packets c rs) c.files ++ flat_map
+        (file_packets_fail c rs) c.files else [])

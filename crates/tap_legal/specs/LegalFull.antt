@@ -26,7 +26,8 @@ had_capacity c a file k d =
 -- or another actor of the phase resizes the file above SEEN, and k - d is above the new capacity and at most the one
 -- before it.
 abbrev pub is_resize_of : ℕ → ℕ → ℕ → ℕ → Option Op → Bool
-is_resize_of file k d before (Some (op.Resize f capacity)) = f == file && nat_lt (d + capacity) k && nat_le k (d + before)
+is_resize_of file k d before (Some (op.Resize f capacity)) =
+    f == file && nat_lt (d + capacity) k && nat_le k (d + before)
 is_resize_of file k d before other = false
 
 abbrev pub is_other_actor : Case → Told → OpAt → Bool
@@ -45,7 +46,8 @@ fits_claimed c a file k =
     && is_above_before (put_in file) a.told k c.answers
     && is_below_later (put_in file) a.told k c.answers
 
--- d is at most FREED, and above the place of each entry that a command before this one read, copied to a guest or purged.
+-- d is at most FREED, and above the place of each entry that a command before this one read, copied to a guest or
+-- purged.
 abbrev pub fits_freed : Case → AnswerAt → ℕ → ℕ → Bool
 fits_freed c a file d =
     nat_le d (freed_of c file)

@@ -25,17 +25,21 @@ is_file d f = f.part.file == d.0
 -- Each `placed` is the entry at its place, under the command's name, epoch and length.
 abbrev pub is_entry_of : Told → ℕ → ℕ → EntryAt → Bool
 is_entry_of t epoch len e =
-    e.at.name.actor == t.actor && e.at.name.turn == t.command && e.at.name.part == 0 && e.at.epoch == epoch && e.at.len == len
+    e.at.name.actor == t.actor && e.at.name.turn == t.command && e.at.name.part == 0 && e.at.epoch == epoch
+        && e.at.len == len
 
 abbrev pub stands_as : Case → Told → Answer → Bool
-stands_as c t (answer.Placed file place epoch len) = option_map_or (is_entry_of t epoch len) (entry_at c file place) false
+stands_as c t (answer.Placed file place epoch len) =
+    option_map_or (is_entry_of t epoch len) (entry_at c file place) false
 stands_as c t other = true
 
 -- Each entry is one `placed`, at the place that follows the entry before it.
 abbrev pub is_placed : Case → EntryAt → Bool
 is_placed c e =
     e.at.name.part == 0
-    && option_map_or (λ (a : AnswerAt). a.told.actor == e.at.name.actor && option_map_or (λ p. p == e.at.place) (put_in e.file a) false)
+    && option_map_or
+        (λ (a : AnswerAt). a.told.actor == e.at.name.actor && option_map_or (λ p. p == e.at.place)
+        (put_in e.file a) false)
        (answer_of c e.at.name.turn) false
 
 abbrev pub is_next_place : EntryAt → EntryAt → Bool
@@ -63,7 +67,8 @@ waiting_last d e = not (d.file == e.file) || not (waits d.at.fate) || waits e.at
 abbrev pub gone_in : FileAt → ℕ
 gone_in f = length (filter (λ (l : PlaceLine). not (waits l.fate)) f.part.lines)
 
--- CLAIMED is first plus the number of entries. FREED is at most CLAIMED, at least CLAIMED minus the file's last capacity,
+-- CLAIMED is first plus the number of entries. FREED is at most CLAIMED, at least CLAIMED minus the file's last
+-- capacity,
 -- and first plus the entries out and cut plus 0 to 64.
 abbrev pub numbers_fit : Case → FileAt → Declared → Bool
 numbers_fit c f d =
@@ -93,7 +98,9 @@ reads_entry c a asked other = true
 
 abbrev pub copies_later : Case → StepAt → Bool
 copies_later c s =
-    option_map_or (λ name. option_map_or (λ e. option_map_or (λ t. is_after_placing c t e) (told_of_step c s) true) (entry_named c name) true)
+    option_map_or
+        (λ name. option_map_or (λ e. option_map_or (λ t. is_after_placing c t e) (told_of_step c s) true)
+        (entry_named c name) true)
     (copied s.at.kind) true
 
 -- ---- epochs that end

@@ -34,7 +34,8 @@ is_learning other = false
 -- No version is left out.
 abbrev pub fails_versions : ℕ → List OpAt → List ℕ
 fails_versions version [] = []
-fails_versions version (o ∷ os) = (if o.at.version == version then [] else o.line ∷ []) ++ fails_versions (version + 1) os
+fails_versions version (o ∷ os) =
+    (if o.at.version == version then [] else o.line ∷ []) ++ fails_versions (version + 1) os
 
 -- Each operation is lawful at the version before it,
 abbrev pub is_lawful : Case → OpAt → Bool
@@ -77,7 +78,9 @@ own_ops c n = filter (λ (o : OpAt). not (is_learning o.op)) (ops_of c n)
 -- Each `ok VERSION` is one operation of that command,
 abbrev pub is_published : Case → AnswerAt → Bool
 is_published c a =
-    option_map_or (λ v. length (own_ops c a.told.command) == 1 && list_all (λ (o : OpAt). o.at.version == v) (own_ops c a.told.command))
+    option_map_or
+        (λ v. length (own_ops c a.told.command) == 1 && list_all (λ (o : OpAt). o.at.version == v)
+        (own_ops c a.told.command))
     (version_in a.answer) true
 
 -- and each operation but a learning is one such answer.
@@ -123,12 +126,15 @@ learns_frame c a (Some (command.Write file bytes)) (Some (op.Learn f h)) =
 learns_frame c a asked x = true
 
 abbrev pub is_of_frame : Case → OpAt → Bool
-is_of_frame c o = option_map_or (λ (a : AnswerAt). learns_frame c a a.asked o.op) (answer_of c o.at.command) (not (is_learning o.op))
+is_of_frame c o =
+    option_map_or (λ (a : AnswerAt). learns_frame c a a.asked o.op) (answer_of c o.at.command)
+        (not (is_learning o.op))
 
 -- at most one for each.
 abbrev pub is_other_frame : Case → OpAt → OpAt → Bool
 is_other_frame c o p =
-    not (is_learning o.op && is_learning p.op && o.at.command == p.at.command && option_map_or is_host (option_map (λ (a : AnswerAt). a.answer) (answer_of c o.at.command)) false)
+    not (is_learning o.op && is_learning p.op && o.at.command == p.at.command && option_map_or is_host
+        (option_map (λ (a : AnswerAt). a.answer) (answer_of c o.at.command)) false)
 
 -- A frame has one only where its file learns at a version from what the actor had seen before the command up to SEEN,
 -- and lacks one only where it doesn't at such a version.
@@ -155,7 +161,8 @@ unmatched (f ∷ fs) (o ∷ os) = unmatched fs (if f == hash_in o.op then os els
 abbrev pub learnt_by : Case → ℕ → List OpAt
 learnt_by c command = filter (λ (o : OpAt). is_learning o.op) (ops_of c command)
 
--- A frame has one only where its file learns at a version from what was seen before up to SEEN, and lacks one only where
+-- A frame has one only where its file learns at a version from what was seen before up to SEEN, and lacks one only
+-- where
 -- it doesn't at such a version.
 abbrev pub may_learn_on : Case → AnswerAt → ℕ → ℕ → ℕ → Bool
 may_learn_on c a frames learnt file =
@@ -165,12 +172,14 @@ may_learn_on c a frames learnt file =
 abbrev pub turn_learns : Case → Replays → AnswerAt → Bool
 turn_learns c rs a =
     let frames : ℕ = length (flows_of a.told.command rs) in
-    not (list_any (λ file. not (may_learn_on c a frames (length (learnt_by c a.told.command)) file)) (files_of a.told.command rs))
+    not (list_any (λ file. not (may_learn_on c a frames (length (learnt_by c a.told.command)) file))
+        (files_of a.told.command rs))
 
 abbrev pub turn_fails : Case → Replays → AnswerAt → Option Command → List ℕ
 turn_fails c rs a (Some (command.TxTurn vhost)) =
     if was_replayed a.told.command rs
-    then unmatched (flows_of a.told.command rs) (learnt_by c a.told.command) ++ (if turn_learns c rs a then [] else a.line ∷ [])
+    then unmatched (flows_of a.told.command rs) (learnt_by c a.told.command) ++
+        (if turn_learns c rs a then [] else a.line ∷ [])
     else []
 turn_fails c rs a other = []
 

@@ -1,4 +1,5 @@
--- This project's own: the lines of a trace with their numbers, of which `taptrace 1` is the first; and the scenario that
+-- This project's own: the lines of a trace with their numbers, of which `taptrace 1` is the first; and the scenario
+-- that
 -- the trace is judged by.
 use Rattle.std.specs.Prelude.{ℕ, ◌+◌, ◌==◌, ◌&&◌, not, if◌then◌else◌, List, [], ◌∷◌, ◌++◌, length, map, flat_map, filter, Bool, Option, Some, None, slice_get, option_map, option_and_then}
 use Rattle.std.specs.List.{list_any}
@@ -43,7 +44,8 @@ pub record Asked : Type 0 where
 
 abbrev pub asked_in : ℕ → List Line → List Asked
 asked_in phase lines =
-    map (λ (l : Line). record { told = record { phase = phase; actor = l.actor; command = l.number }; command = l.command }) lines
+    map (λ (l : Line). record
+        { told = record { phase = phase; actor = l.actor; command = l.number }; command = l.command }) lines
 
 -- the commands of all phases from a number on, in the order of their numbers
 abbrev pub asked_from : ℕ → List Phase → List Asked
@@ -132,7 +134,8 @@ ops_from s line phase (o ∷ os) =
 abbrev pub answer_at : List Asked → ℕ → ℕ → AnswerLine → AnswerAt
 answer_at asked line phase a =
     let told : Told = record { phase = phase; actor = a.actor; command = a.command } in
-    record { line = line; told = told; seen = a.seen; answer = a.answer; asked = asked_as told (slice_get asked a.command) }
+    record { line = line; told = told; seen = a.seen; answer = a.answer; asked = asked_as told
+        (slice_get asked a.command) }
 
 abbrev pub answers_from : List Asked → ℕ → ℕ → List AnswerLine → List AnswerAt
 answers_from asked line phase [] = []
@@ -159,7 +162,8 @@ ops_at s line phase (p ∷ ps) = ops_from s (line + 1) phase p.ops ++ ops_at s (
 abbrev pub answers_at : List Asked → ℕ → ℕ → List PhasePart → List AnswerAt
 answers_at asked line phase [] = []
 answers_at asked line phase (p ∷ ps) =
-    answers_from asked (line + 1 + length p.ops) phase p.answers ++ answers_at asked (line + phase_lines p) (phase + 1) ps
+    answers_from asked (line + 1 + length p.ops) phase p.answers ++ answers_at asked (line + phase_lines p)
+        (phase + 1) ps
 
 -- the first line behind the phases
 abbrev pub behind_phases : ℕ → List PhasePart → ℕ
@@ -210,7 +214,8 @@ behind_rings line (r ∷ rs) = behind_rings (line + 1 + list_lines r.lists) rs
 abbrev pub rings_at : ℕ → List RingPart → List RingAt
 rings_at line [] = []
 rings_at line (r ∷ rs) =
-    record { line = line; vhost = r.vhost; ring = r.ring; lists = r.lists } ∷ rings_at (line + 1 + list_lines r.lists) rs
+    record { line = line; vhost = r.vhost; ring = r.ring; lists = r.lists } ∷ rings_at
+        (line + 1 + list_lines r.lists) rs
 
 -- the line of `end`
 abbrev pub end_line : Trace → ℕ

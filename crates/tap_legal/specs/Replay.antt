@@ -1,4 +1,5 @@
--- This project's own, of clause g of a legal trace: the steps on a guest as one fold, from zeros, the first settings and
+-- This project's own, of clause g of a legal trace: the steps on a guest as one fold, from zeros, the first settings
+-- and
 -- no drivers. A turn is replayed by the steps of its worker; which frames it had in hand is read off the file's line.
 use Rattle.std.specs.Prelude.{ℕ, zero, suc, ◌+◌, ◌-◌, ◌^◌, ◌==◌, ◌&&◌, ◌||◌, not, nat_lt, nat_le, if◌then◌else◌, Bool, true, false, List, [], ◌∷◌, ◌++◌, length, map, filter, replicate, find, Option, Some, None, is_none, is_some, option_map, option_and_then}
 use Rattle.std.specs.List.{list_any}
@@ -41,9 +42,9 @@ use Rattle.tap_world.specs.Frames.{FrameText}
 use Rattle.tap_world.specs.Guests.{Vhost, new_vhost, turn_of, with_queue, with_turn}
 use Rattle.tap_world.specs.Setup.{frame_of}
 use Rattle.tap_world.specs.World.{name_of}
-use Rattle.tap_world.specs.StepControl.{back_answer, back_refusal, call_of, may_call, peeked, unfit_for}
+use Rattle.tap_world.specs.StepBackend.{back_answer, back_refusal, unfit_for}
+use Rattle.tap_world.specs.StepControl.{call_of, may_call, peeked}
 use Rattle.tap_world.specs.StepControl.{Call}
-use Rattle.tap_world.specs.StepTurns.{chains_after, end_told, is_off, kind_of, rx_over, rx_state, turn_on, tx_over, tx_state}
 use Rattle.tap_legal.specs.Numbered.{AnswerAt, Asked, EntryAt, StepAt}
 use Rattle.tap_legal.specs.Codes.{same_answer, same_kind}
 use Rattle.tap_legal.specs.Case.{Case}
@@ -67,7 +68,8 @@ pub record Accepted : Type 0 where
   pub command : ℕ
   pub flow : ℕ
 
--- a packet of a receive turn on a file: the frame that was copied, or an overrun with the header's size, the chains that
+-- a packet of a receive turn on a file: the frame that was copied, or an overrun with the header's size, the chains
+-- that
 -- it might have, and the bytes that they held
 pub record Packet : Type 0 where
   pub file : ℕ
@@ -76,7 +78,8 @@ pub record Packet : Type 0 where
   pub quota : ℕ
   pub had : ℕ
 
--- the memory, the vhosts, the turns under way, the packets, the frames that were accepted, the turns with their files, the
+-- the memory, the vhosts, the turns under way, the packets, the frames that were accepted, the turns with their
+-- files, the
 -- commands that are done, and the lines that fail; after a step that can't be, no more is replayed
 pub record Replay : Type 0 where
   pub memory : Contents
@@ -96,7 +99,8 @@ broken_at line r = record r { fails = r.fails ++ line ∷ []; broken = true }
 -- a command is done with this answer
 abbrev pub answers : Case → ℕ → Answer → Replay → Replay
 answers c command x r =
-    let wrong : List ℕ = option_map_or (λ (a : AnswerAt). if same_answer a.answer x then [] else a.line ∷ []) (answer_of c command) [] in
+    let wrong : List ℕ = option_map_or (λ (a : AnswerAt). if same_answer a.answer x then [] else a.line ∷ [])
+        (answer_of c command) [] in
     record r { finished = command ∷ r.finished; fails = r.fails ++ wrong }
 
 -- the step is the wanted one, or the replay ends there
@@ -155,24 +159,29 @@ version_for a other = a.seen
 abbrev pub back_wanted : Case → ℕ → ℕ → Option ℕ → Vhost → Contents → Table → Option Answer
 back_wanted c vhost ring None v m t = if is_none (ring_at ring v.settings).file then Some answer.Done else None
 back_wanted c vhost ring (Some file) v m t =
-    back_answer (ready_refusal ring m v.settings) (back_refusal t vhost ring (Some file)) (unfit_for (shape_of t file) v.settings)
+    back_answer (ready_refusal ring m v.settings) (back_refusal t vhost ring (Some file))
+        (unfit_for (shape_of t file) v.settings)
 
 abbrev pub back_made : ℕ → Option ℕ → Contents → Vhost → Vhost
 back_made ring None m v = record v { settings = without_backend ring v.settings }
 back_made ring (Some file) m v = record v { settings = with_backend ring file m v.settings }
 
 abbrev pub backed_as : Case → StepAt → ℕ → ℕ → Option ℕ → Vhost → Option Answer → Replay → Replay
-backed_as c s vhost ring file v (Some x) r = if_step s (Some (kind.Backend vhost ring false)) r (answers c s.at.command x r)
+backed_as c s vhost ring file v (Some x) r =
+    if_step s (Some (kind.Backend vhost ring false)) r (answers c s.at.command x r)
 backed_as c s vhost ring file v None r =
     if_step s (Some (kind.Backend vhost ring true)) r
-    (answers c s.at.command (answer.Version 0) (record r { vhosts = with_at vhost (back_made ring file r.memory v) r.vhosts }))
+    (answers c s.at.command (answer.Version 0)
+        (record r { vhosts = with_at vhost (back_made ring file r.memory v) r.vhosts }))
 
 abbrev pub replay_back : Case → StepAt → Command → Replay → Option Replay
 replay_back c s (command.Backend vhost ring file) r = do
   v ← at r.vhosts vhost
   a ← answer_of c s.at.command
   if is_none (turn_of ring v)
-    then Some (backed_as c s vhost ring file v (back_wanted c vhost ring file v r.memory (table_at c (version_for a a.answer))) r)
+    then Some
+        (backed_as c s vhost ring file v
+        (back_wanted c vhost ring file v r.memory (table_at c (version_for a a.answer))) r)
     else None
 replay_back c s other r = None
 

@@ -1,4 +1,5 @@
--- This project's own, of clause g of a legal trace: the steps of turns in the fold. Between two steps on the guest a turn
+-- This project's own, of clause g of a legal trace: the steps of turns in the fold. Between two steps on the guest a
+-- turn
 -- has steps on the file or the host alone, which aren't printed.
 use Rattle.std.specs.Prelude.{ℕ, ◌+◌, ◌-◌, ◌==◌, ◌&&◌, ◌||◌, not, nat_lt, nat_le, if◌then◌else◌, Bool, true, false, List, [], ◌∷◌, ◌++◌, length, map, filter, find, Option, Some, None, is_none, is_some, option_map, option_and_then, slice_get}
 use Rattle.std.specs.List.{list_any}
@@ -35,11 +36,12 @@ use Rattle.tap_world.specs.Then.{◌>>=◌, only_if}
 use Rattle.tap_world.specs.ByNumber.{at, with_at}
 use Rattle.tap_world.specs.Guests.{Vhost, new_vhost, with_queue, with_turn}
 use Rattle.tap_world.specs.World.{name_of}
-use Rattle.tap_world.specs.StepTurns.{chains_after, end_told, is_off, kind_of, rx_over, rx_state, turn_on, tx_over, tx_state}
+use Rattle.tap_world.specs.StepTurns.{end_told, is_off, kind_of, rx_over, rx_state, turn_on}
+use Rattle.tap_world.specs.StepTransmits.{chains_after, tx_over, tx_state}
 use Rattle.tap_legal.specs.Numbered.{AnswerAt, Asked, EntryAt, StepAt}
 use Rattle.tap_legal.specs.Case.{Case}
 use Rattle.tap_legal.specs.Lookups.{answer_of, asked_at}
-use Rattle.tap_legal.specs.Replay.{Accepted, Packet, Replay, Turning, Under, answers, broken_at, hand_for, if_step, replay_back, replay_bytes, replay_call}
+use Rattle.tap_legal.specs.Replay.{Accepted, Packet, Replay, Turning, Under, ahead, answers, broken_at, hand_for, if_step, replay_back, replay_bytes, replay_call}
 use Rattle.tap_legal.specs.Replay.Turning.{Receiving, Sending}
 
 -- ---- turns under way
@@ -57,16 +59,22 @@ under_on vhost ring r = find (is_on vhost ring) r.under
 abbrev pub without : Under → Replay → Replay
 without u r = record r { under = filter (λ x. not (is_on u.vhost (ring_of u.turning) x)) r.under }
 
--- the turn goes on, or is over and answers; the ring has this queue, and its turn is held by the command till then
-abbrev pub with_under : Case → Under → Queue → Contents → Option Answer → Vhost → Replay → Replay
-with_under c u q m None v r =
+-- the turn is over; it answers, unless it has steps to come, of which the next is wrong
+abbrev pub over : Case → ℕ → Bool → Answer → Replay → Replay
+over c command true x r = answers c command x r
+over c command false x r = record r { finished = command ∷ r.finished }
+
+-- the turn goes on, or is over; the ring has this queue, and its turn is held by the command till then
+abbrev pub with_under : Case → List StepAt → Under → Queue → Contents → Option Answer → Vhost → Replay → Replay
+with_under c ss u q m None v r =
     record (without u r) {
       under = u ∷ (without u r).under;
       memory = m;
-      vhosts = with_at u.vhost (with_turn (ring_of u.turning) (Some u.command) (with_queue (ring_of u.turning) q v)) r.vhosts;
+      vhosts = with_at u.vhost
+          (with_turn (ring_of u.turning) (Some u.command) (with_queue (ring_of u.turning) q v)) r.vhosts;
     }
-with_under c u q m (Some x) v r =
-    answers c u.command x (record (without u r) {
+with_under c ss u q m (Some x) v r =
+    over c u.command (length (ahead u.command ss) == 0) x (record (without u r) {
       memory = m;
       vhosts = with_at u.vhost (with_turn (ring_of u.turning) None (with_queue (ring_of u.turning) q v)) r.vhosts;
     })
@@ -78,19 +86,21 @@ rx_answer t = option_map (λ e. answer.Turn t.packets t.bytes (end_told e) []) (
 abbrev pub tx_answer : TxTurn → List ChainText → Option Answer
 tx_answer t chains = option_map (λ e. answer.Turn t.packets t.bytes (end_told e) chains) (tx_over t.stage)
 
-abbrev pub rx_left : Case → Under → Vhost → Replay → RxState × Act → Replay
-rx_left c u v r made =
-    with_under c (record u { turning = Receiving made.0.turn }) made.0.queue made.0.memory (rx_answer made.0.turn) v r
+abbrev pub rx_left : Case → List StepAt → Under → Vhost → Replay → RxState × Act → Replay
+rx_left c ss u v r made =
+    with_under c ss (record u { turning = Receiving made.0.turn }) made.0.queue made.0.memory
+        (rx_answer made.0.turn) v r
 
 -- the frame that a step accepted
 abbrev pub accepted_by : ℕ → Act → Option FrameValue → List Accepted
 accepted_by command (act.Copy position name) (Some f) = record { command = command; flow = hash f.made } ∷ []
 accepted_by command other held = []
 
-abbrev pub tx_left : Case → Under → List ChainText → Vhost → Replay → TxState × Act → Replay
-tx_left c u chains v r made =
+abbrev pub tx_left : Case → List StepAt → Under → List ChainText → Vhost → Replay → TxState × Act → Replay
+tx_left c ss u chains v r made =
     let after : List ChainText = chains_after made.1 made.0.turn.held chains in
-    with_under c (record u { turning = Sending made.0.turn after }) made.0.queue made.0.memory (tx_answer made.0.turn after) v
+    with_under c ss (record u { turning = Sending made.0.turn after }) made.0.queue made.0.memory
+        (tx_answer made.0.turn after) v
     (record r { accepted = r.accepted ++ accepted_by u.command made.1 made.0.turn.held })
 
 -- ---- steps that aren't printed
@@ -124,23 +134,27 @@ is_quiet_tx other = false
 
 -- a turn that can't go on as its answer says fails there
 abbrev pub fails_at_answer : Case → ℕ → Replay → Replay
-fails_at_answer c command r = option_map_or (λ (a : AnswerAt). broken_at a.line r) (answer_of c command) (broken_at c.end r)
+fails_at_answer c command r =
+    option_map_or (λ (a : AnswerAt). broken_at a.line r) (answer_of c command) (broken_at c.end r)
 
 abbrev pub quiet_of : Case → List StepAt → Under → Turning → Vhost → Replay → Replay
 quiet_of c ss u (Receiving t) v r =
     if is_quiet_rx t.stage
-    then option_map_or (λ made. rx_left c u v (taken u t r) made) (rx_step (hand_for c u t ss) (rx_state t v r.memory))
+    then option_map_or (λ made. rx_left c ss u v (taken u t r) made)
+        (rx_step (hand_for c u t ss) (rx_state t v r.memory))
       (fails_at_answer c u.command r)
     else r
 quiet_of c ss u (Sending t chains) v r =
     if is_quiet_tx t.stage
-    then option_map_or (λ made. tx_left c u chains v r made) (tx_step (tx_state t v r.memory)) (fails_at_answer c u.command r)
+    then option_map_or (λ made. tx_left c ss u chains v r made) (tx_step (tx_state t v r.memory))
+        (fails_at_answer c u.command r)
     else r
 
 -- one of them, where the turn on a ring is before one; there are at most two in a row
 abbrev pub quiet : Case → List StepAt → ℕ → ℕ → Replay → Replay
 quiet c ss vhost ring r =
-    option_map_or (λ u. option_map_or (λ v. quiet_of c ss u u.turning v r) (at r.vhosts vhost) r) (under_on vhost ring r) r
+    option_map_or (λ u. option_map_or (λ v. quiet_of c ss u u.turning v r) (at r.vhosts vhost) r)
+        (under_on vhost ring r) r
 
 abbrev pub quietly : Case → List StepAt → ℕ → ℕ → Replay → Replay
 quietly c ss vhost ring r = if r.broken then r else quiet c ss vhost ring (quiet c ss vhost ring r)
@@ -150,10 +164,10 @@ quietly c ss vhost ring r = if r.broken then r else quiet c ss vhost ring (quiet
 abbrev pub step_of : Case → StepAt → List StepAt → Under → Turning → Vhost → Replay → Option Replay
 step_of c s ss u (Receiving t) v r = do
   made ← rx_step hand.Off (rx_state t v r.memory)
-  Some (if_step s (kind_of u.vhost 0 made.1) r (quietly c ss u.vhost 0 (rx_left c u v r made)))
+  Some (if_step s (kind_of u.vhost 0 made.1) r (quietly c ss u.vhost 0 (rx_left c ss u v r made)))
 step_of c s ss u (Sending t chains) v r = do
   made ← tx_step (tx_state t v r.memory)
-  Some (if_step s (kind_of u.vhost 1 made.1) r (quietly c ss u.vhost 1 (tx_left c u chains v r made)))
+  Some (if_step s (kind_of u.vhost 1 made.1) r (quietly c ss u.vhost 1 (tx_left c ss u chains v r made)))
 
 -- a turn begins: without a backend, or on a stopped ring, it is over at once
 abbrev pub turn_begun : ℕ → ℕ → ℕ → Vhost → Turning
@@ -168,7 +182,9 @@ abbrev pub begun : Case → StepAt → List StepAt → ℕ → ℕ → Vhost →
 begun c s ss vhost ring v (Some told) r =
     Some (if_step s (Some told.1) r (answers c s.at.command (answer.Turn 0 0 told.0 []) r))
 begun c s ss vhost ring v None r =
-    let u : Under = record { vhost = vhost; command = s.at.command; file = file_on ring v; turning = turn_begun ring s.at.command s.at.actor v } in
+    let u : Under = record
+        { vhost = vhost; command = s.at.command; file = file_on ring v; turning = turn_begun ring s.at.command
+        s.at.actor v } in
     step_of c s ss u u.turning v (record r { files = r.files ++ (s.at.command, u.file) ∷ [] })
 
 -- the next step of the command's turn, or its first one, where no other turn is under way on the ring
@@ -193,12 +209,14 @@ or_else (Some a) b = Some a
 abbrev pub replay_as : Case → StepAt → List StepAt → Command → Replay → Option Replay
 replay_as c s ss k r =
     if list_any (λ n. n == s.at.command) r.finished then None
-    else or_else (replay_turn c s ss k r) (or_else (replay_back c s k r) (or_else (replay_call c s k r) (replay_bytes c s k r)))
+    else or_else (replay_turn c s ss k r)
+        (or_else (replay_back c s k r) (or_else (replay_call c s k r) (replay_bytes c s k r)))
 
 abbrev pub replay_step : Case → StepAt → List StepAt → Replay → Replay
 replay_step c s ss r =
     option_map_or (λ x. x)
-    (option_and_then (λ (a : Asked). if a.told.actor == s.at.actor then replay_as c s ss a.command r else None) (asked_at c s.at.command))
+    (option_and_then (λ (a : Asked). if a.told.actor == s.at.actor then replay_as c s ss a.command r else None)
+        (asked_at c s.at.command))
     (broken_at s.line r)
 
 abbrev pub replay : Case → List StepAt → Replay → Replay

@@ -33,7 +33,8 @@ pub data OnVhosts : Type 0 where
   NoVhost : OnVhosts
   OnVhost : ℕ → Vhost → OnVhosts
 
--- how the command goes on: having seen a version, and with what the event found; to its end, with its answer; or as it was
+-- how the command goes on: having seen a version, and with what the event found; to its end, with its answer; or as
+-- it was
 pub data Onward : Type 0 where
   Goes : ℕ → Doing → Found → Onward
   Ends : ℕ → Answer → Onward

@@ -11,7 +11,9 @@ pub mod Causes
 pub mod StepTable
 pub mod StepRing
 pub mod StepControl
+pub mod StepBackend
 pub mod StepTurns
+pub mod StepTransmits
 pub mod Scripts
 pub mod Step
 pub mod Runs

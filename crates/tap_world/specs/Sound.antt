@@ -72,7 +72,9 @@ accepted_in actor n other = []
 -- Each name stands at most once; and the accepted names of each command that has ended stand.
 pub record NamesStandOnce (w : World) : Type 0 where
   pub once : (n : Name) → times w n ≤ 1
-  pub ended : AllByRecursion (λ (x : Said). AllByRecursion (λ n. times w n ≡ 1) (accepted_in x.line.actor x.line.command x.line.answer)) w.said
+  pub ended : AllByRecursion
+      (λ (x : Said). AllByRecursion (λ n. times w n ≡ 1) (accepted_in x.line.actor x.line.command x.line.answer))
+      w.said
 
 -- ---- 2: lines
 
@@ -181,7 +183,8 @@ expected doing file f x = x
 
 -- what the writer's command is doing
 abbrev pub writing : World → Doing
-writing w = option_map_or (λ actor. option_map_or (λ (a : Actor). a.doing) (slice_get w.actors actor) Begun) w.writer Begun
+writing w =
+    option_map_or (λ actor. option_map_or (λ (a : Actor). a.doing) (slice_get w.actors actor) Begun) w.writer Begun
 
 -- A gate has its file's epoch, and is unshut exactly where its file is enabled; the owner is the worker that the table
 -- names; capacity and number of resizes are the table's; but for the command that holds the writer.

@@ -10,8 +10,10 @@ use Rattle.tap_world.specs.Then.{◌>>=◌, only_if}
 use Rattle.tap_world.specs.Setup.{Numbered, Setup}
 use Rattle.tap_world.specs.World.{Actor, Doing, World, current, table}
 use Rattle.tap_world.specs.World.Doing.{Begun}
-use Rattle.tap_world.specs.StepControl.{backs, calls, looks_to_back, owns, pokes, publishes_back}
-use Rattle.tap_world.specs.StepTurns.{finds_nothing, finds_off, hands, hosts_of_turn, looks_at_flow, teaches, turns}
+use Rattle.tap_world.specs.StepControl.{calls, pokes}
+use Rattle.tap_world.specs.StepBackend.{backs, looks_to_back, owns, publishes_back}
+use Rattle.tap_world.specs.StepTurns.{finds_off}
+use Rattle.tap_world.specs.StepTransmits.{finds_nothing, hands, hosts_of_turn, looks_at_flow, teaches, turns}
 use Rattle.tap_world.specs.Effect.{Effect, ending, heard_by, settled, with_effect}
 use Rattle.tap_world.specs.StepTable.{looks, publishes}
 use Rattle.tap_world.specs.StepRing.{claims, cuts, drops_for, finds_none, full_now, gone_now, hosts, if_held, leaves, meets_worker, moves, puts, reopens, resizes, shuts, spent_now}
@@ -25,13 +27,15 @@ or_else (Some r) e = Some r
 
 -- the first look of a command, or that of a transmit turn at a frame that it gave to the host
 abbrev pub look_row : Setup → World → ℕ → Actor → ℕ → Command → Option Effect
-look_row s w actor a n (command.Backend vhost ring file) = looks_to_back (table s w) w actor (command.Backend vhost ring file)
+look_row s w actor a n (command.Backend vhost ring file) =
+    looks_to_back (table s w) w actor (command.Backend vhost ring file)
 look_row s w actor a n (command.TxTurn vhost) = looks_at_flow s w a.doing
 look_row s w actor a n c = looks s w actor a n c
 
 -- a publication: of a learning, of a backend, or of a command's own operation
 abbrev pub publish_row : Setup → World → ℕ → Doing → Command → Option Effect
-publish_row s w actor doing (command.Backend vhost ring file) = if_held w actor (publishes_back w doing (command.Backend vhost ring file))
+publish_row s w actor doing (command.Backend vhost ring file) =
+    if_held w actor (publishes_back w doing (command.Backend vhost ring file))
 publish_row s w actor doing (command.TxTurn vhost) = teaches w doing
 publish_row s w actor doing c = publishes s w actor doing c
 
@@ -44,7 +48,8 @@ not_ready_row w actor seen doing c = or_else (finds_none w seen doing) (finds_no
 
 -- a read meets a worker, a turn no backend, or a backend changes the owner
 abbrev pub owner_row : World → ℕ → ℕ → Doing → Command → Option Effect
-owner_row w actor seen doing (command.Backend vhost ring file) = if_held w actor (owns w seen doing (command.Backend vhost ring file))
+owner_row w actor seen doing (command.Backend vhost ring file) =
+    if_held w actor (owns w seen doing (command.Backend vhost ring file))
 owner_row w actor seen doing c = or_else (meets_worker w seen doing) (finds_off w seen doing c)
 
 abbrev pub drive_row : Setup → World → ℕ → ℕ → Doing → Command → Option Effect
@@ -85,7 +90,8 @@ abbrev pub effect : Setup → World → Event → Option Effect
 effect s w e = do
   a ← slice_get w.actors e.actor
   c ← current a.script
-  if c.number == e.command && is_kind e.kind (next_kind w a.doing c.command) then row s w e.kind e.actor a c.number c.command else None
+  if c.number == e.command && is_kind e.kind (next_kind w a.doing c.command)
+      then row s w e.kind e.actor a c.number c.command else None
 
 -- the world after an effect, with the detach that ends by it, and what the event answers
 abbrev pub stepped : Effect → Event → Actor → World → Option (World × Heard)

@@ -134,7 +134,8 @@ leaves s w seen doing = None
 abbrev pub finds_none : World → ℕ → Doing → Option Effect
 finds_none w seen (Reads file room front) = do
   f ← at w.files file
-  only_if (is_none (first_that in_batch f.line) && is_none (ready_front f.line)) (only (Ends seen (answer.Again (front_place f))) w)
+  only_if (is_none (first_that in_batch f.line) && is_none (ready_front f.line))
+      (only (Ends seen (answer.Again (front_place f))) w)
 finds_none w seen doing = None
 
 -- Owner, found: a read meets a worker
@@ -148,7 +149,8 @@ meets_worker w seen doing = None
 
 abbrev pub hosts : World → ℕ → ℕ → ℕ → Doing → Option Effect
 hosts w actor n seen (Hosts file ether true) =
-    Some (record (only (Goes seen (Learns file ether) (found.Moved (name_of actor n))) w) { hosts = name_of actor n ∷ [] })
+    Some (record
+        (only (Goes seen (Learns file ether) (found.Moved (name_of actor n))) w) { hosts = name_of actor n ∷ [] })
 hosts w actor n seen (Hosts file ether false) =
     Some (record (only (Ends seen (answer.Host (length ether) (fnv_of ether))) w) { hosts = name_of actor n ∷ [] })
 hosts w actor n seen doing = None

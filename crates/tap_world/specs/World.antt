@@ -45,7 +45,8 @@ pub data Doing : Type 0 where
   Given : ℕ → TxTurn → List ChainText → FrameValue → Doing -- its frame is with the host, to look
   Teaches : ℕ → TxTurn → List ChainText → FrameValue → Doing -- the frame's flow is to be learnt
 
--- an actor: the newest version that it has seen, its commands that haven't ended, and how far the first of them has come
+-- an actor: the newest version that it has seen, its commands that haven't ended, and how far the first of them has
+-- come
 pub record Actor : Type 0 where
   pub seen : ℕ
   pub script : List Numbered
