@@ -1,0 +1,124 @@
+-- This project's own, clause h of a legal trace: each accepted frame has one fate, and no other name stands in the
+-- trace.
+use Rattle.std.specs.Prelude.{ℕ, ◌+◌, ◌==◌, ◌&&◌, ◌||◌, not, nat_lt, if◌then◌else◌, Bool, true, false, List, [], ◌∷◌, ◌++◌, length, filter, flat_map, is_none, Option, Some, None}
+use Rattle.std.specs.List.{list_any}
+use Rattle.std.specs.Option.{option_map_or}
+use Rattle.tap_frame.specs.declared.name.Name.{Name}
+use Rattle.scen_words.specs.declared.command.Command.{Command}
+use Rattle.scen_words.specs.declared.command.Command.TheVariants as command
+use Rattle.tap_trace.specs.declared.answer.Answer.{Answer}
+use Rattle.tap_trace.specs.declared.answer.Answer.TheVariants as answer
+use Rattle.tap_world.specs.Frames.{bad_in, sent_bytes, sent_front}
+use Rattle.tap_ledger.specs.declared.fate.Fate.{Fate}
+use Rattle.tap_ledger.specs.declared.fate.Fate.TheVariants as fate
+use Rattle.tap_ledger.specs.declared.fate.Cause.TheVariants as cause
+use Rattle.tap_legal.specs.Numbered.{AnswerAt, Asked, EntryAt, FileAt, StepAt, Told}
+use Rattle.tap_legal.specs.Replay.{Packet, Replay}
+use Rattle.tap_legal.specs.Replays.{Replays, are_of_one, is_whole, packets_of}
+use Rattle.tap_legal.specs.Case.{Case, fails_each, of_answer, of_entry, of_file, of_step}
+use Rattle.tap_legal.specs.Lookups.{answer_of, asked_at, same_name}
+use Rattle.tap_legal.specs.Takes.{copied, copies_of, has_guest, readers, was_read}
+
+-- ---- names
+
+-- the only frame of a command
+abbrev pub only_name : Told → Name
+only_name t = record { actor = t.actor; turn = t.command; part = 0 }
+
+-- a command sends a frame that is accepted
+abbrev pub is_accepted : Command → Bool
+is_accepted (command.Send name hdr bytes) = is_none (bad_in (sent_front hdr) (sent_bytes hdr bytes))
+is_accepted other = false
+
+-- the name is that of a frame that was sent and accepted
+abbrev pub is_sent : Case → Name → Bool
+is_sent c n =
+    option_map_or (λ (a : Asked). a.told.actor == n.actor && n.part == 0 && is_accepted a.command)
+        (asked_at c n.turn) false
+
+-- ---- one fate
+
+abbrev pub is_drop : Answer → Bool
+is_drop (answer.Dropped file cause) = true
+is_drop other = false
+
+abbrev pub entries_named : Case → Name → List EntryAt
+entries_named c n = filter (λ (e : EntryAt). same_name e.at.name n) c.entries
+
+-- Each accepted frame has exactly one of: a `drop`, a `host`, an entry.
+abbrev pub has_one_fate : Case → AnswerAt → Option Command → Bool
+has_one_fate c a (Some (command.Send name hdr bytes)) =
+    not (is_accepted (command.Send name hdr bytes))
+    || (if is_drop a.answer then 1 else 0) + length (entries_named c (only_name a.told)) == 1
+has_one_fate c a (Some (command.Write file bytes)) = length (entries_named c (only_name a.told)) == 0
+has_one_fate c a other = true
+
+-- ---- no other name
+
+abbrev pub name_read : Answer → Option Name
+name_read (answer.Read name place bytes) = Some name
+name_read other = None
+
+abbrev pub reads_sent : Case → AnswerAt → Bool
+reads_sent c a = option_map_or (is_sent c) (name_read a.answer) true
+
+abbrev pub copies_sent : Case → StepAt → Bool
+copies_sent c s = option_map_or (is_sent c) (copied s.at.kind) true
+
+-- ---- reads and copies
+
+-- Each `guest` entry has one copy, and each `read` entry one `read`.
+abbrev pub is_taken_once : Case → EntryAt → Bool
+is_taken_once c e =
+    (not (has_guest e.at.fate) || length (copies_of c e.at.name) == 1)
+    && (not (was_read e.at.fate) || length (readers c e) == 1)
+
+-- ---- packets
+
+-- Each `overrun` entry has HAD below NEED, NEED is LEN plus 10 or 12, and QUOTA is 1 or 1,024.
+abbrev pub fits_overrun : ℕ → Fate → Bool
+fits_overrun len (fate.Discarded (cause.Overrun need quota had)) =
+    nat_lt had need && (need == len + 10 || need == len + 12) && (quota == 1 || quota == 1024)
+fits_overrun len other = true
+
+-- Entries and packets match in the order of places: a copied frame has fate `guest`; NEED and QUOTA of an overrun are
+-- those of the settings, and HAD is the bytes of its chains, as the replay has them.
+abbrev pub fits_packet : Packet → EntryAt → Fate → Option Name → Bool
+fits_packet p e fate.Guest (Some name) = same_name e.at.name name
+fits_packet p e (fate.Discarded (cause.Overrun need quota had)) None =
+    need == p.header + e.at.len && quota == p.quota && had == p.had
+fits_packet p e other name = false
+
+abbrev pub packets_fail : List EntryAt → List Packet → List ℕ
+packets_fail [] ps = []
+packets_fail (e ∷ es) [] = []
+packets_fail (e ∷ es) (p ∷ ps) = (if fits_packet p e e.at.fate p.name then [] else e.line ∷ []) ++ packets_fail es ps
+
+abbrev pub is_packet : Fate → Bool
+is_packet fate.Guest = true
+is_packet (fate.Discarded (cause.Overrun need quota had)) = true
+is_packet other = false
+
+abbrev pub packet_entries : Case → ℕ → List EntryAt
+packet_entries c file = filter (λ (e : EntryAt). e.file == file && is_packet e.at.fate) c.entries
+
+-- Packets of all receive turns on a file are its `guest` and `overrun` entries.
+abbrev pub has_packets : Case → Replays → FileAt → Bool
+has_packets c rs f = length (packet_entries c f.part.file) == length (packets_of f.part.file rs)
+
+abbrev pub file_packets_fail : Case → Replays → FileAt → List ℕ
+file_packets_fail c rs f =
+    if are_of_one f.part.file rs then packets_fail (packet_entries c f.part.file) (packets_of f.part.file rs) else []
+
+-- ---- the clause
+
+abbrev pub h_fails : Case → Replays → List ℕ
+h_fails c rs =
+    fails_each of_answer (λ a. has_one_fate c a a.asked) c.answers
+    ++ fails_each of_entry (λ (e : EntryAt). is_sent c e.at.name) c.entries
+    ++ fails_each of_answer (reads_sent c) c.answers
+    ++ fails_each of_step (copies_sent c) c.steps
+    ++ fails_each of_entry (is_taken_once c) c.entries
+    ++ fails_each of_entry (λ (e : EntryAt). fits_overrun e.at.len e.at.fate) c.entries
+    ++ (if is_whole rs then fails_each of_file (has_packets c rs) c.files ++ flat_map
+        (file_packets_fail c rs) c.files else [])

@@ -1,0 +1,250 @@
+-- This project's own, of clause g of a legal trace: the steps on a guest as one fold, from zeros, the first settings
+-- and
+-- no drivers. A turn is replayed by the steps of its worker; which frames it had in hand is read off the file's line.
+use Rattle.std.specs.Prelude.{ℕ, zero, suc, ◌+◌, ◌-◌, ◌^◌, ◌==◌, ◌&&◌, ◌||◌, not, nat_lt, nat_le, if◌then◌else◌, Bool, true, false, List, [], ◌∷◌, ◌++◌, length, map, filter, replicate, find, Option, Some, None, is_none, is_some, option_map, option_and_then}
+use Rattle.std.specs.List.{list_any}
+use Rattle.std.specs.Option.{option_map_or}
+use Rattle.guest_mem.specs.Memory.{Contents, first_bad, written}
+use Rattle.guest_mem.specs.declared.region.Region.{Region}
+use Rattle.tap_frame.specs.declared.name.Name.{Name}
+use Rattle.tap_frame.specs.Frame.{FrameValue}
+use Rattle.tap_ledger.specs.declared.act.Act.{Act}
+use Rattle.tap_ledger.specs.declared.hand.Hand.{Hand}
+use Rattle.tap_ledger.specs.declared.hand.Hand.TheVariants as hand
+use Rattle.tap_ledger.specs.declared.fate.Fate.{Fate}
+use Rattle.tap_ledger.specs.declared.fate.Fate.TheVariants as fate
+use Rattle.tap_ledger.specs.declared.fate.Cause.{Cause}
+use Rattle.tap_ledger.specs.declared.fate.Cause.TheVariants as cause
+use Rattle.vhost_dev.specs.Calls.{with_backend, without_backend}
+use Rattle.vhost_dev.specs.Refusals.{ready_refusal}
+use Rattle.vhost_dev.specs.Settings.{hdr_of, ring_at}
+use Rattle.vring_turns.specs.declared.stage.RxStage.{RxStage}
+use Rattle.vring_turns.specs.declared.stage.RxStage.TheVariants as rx
+use Rattle.vring_turns.specs.declared.stage.TxStage.{TxStage}
+use Rattle.vring_turns.specs.declared.stage.TxStage.TheVariants as tx
+use Rattle.vring_turns.specs.ReceiveImage.{need_of}
+use Rattle.vring_turns.specs.RxTurn.{RxTurn, quota}
+use Rattle.vring_turns.specs.TxTurn.{TxState, TxTurn, tx_begun, tx_step}
+use Rattle.tap_steer.specs.Table.{Table}
+use Rattle.tap_steer.specs.Select.{shape_of}
+use Rattle.scen_words.specs.declared.command.Command.{Command}
+use Rattle.scen_words.specs.declared.command.Command.TheVariants as command
+use Rattle.tap_trace.specs.declared.answer.Answer.{Answer}
+use Rattle.tap_trace.specs.declared.answer.Answer.TheVariants as answer
+use Rattle.tap_trace.specs.declared.kind.Kind.{Kind}
+use Rattle.tap_trace.specs.declared.kind.Kind.TheVariants as kind
+use Rattle.tap_trace.specs.declared.turn.ChainText.{ChainText}
+use Rattle.tap_trace.specs.declared.turn.TurnText.{TurnText}
+use Rattle.tap_trace.specs.declared.turn.TurnText.TheVariants as text
+use Rattle.tap_world.specs.Then.{◌>>=◌, only_if}
+use Rattle.tap_world.specs.ByNumber.{at, with_at}
+use Rattle.tap_world.specs.Frames.{FrameText}
+use Rattle.tap_world.specs.Guests.{Vhost, new_vhost, turn_of, with_queue, with_turn}
+use Rattle.tap_world.specs.Setup.{frame_of}
+use Rattle.tap_world.specs.World.{name_of}
+use Rattle.tap_world.specs.StepBackend.{back_answer, back_refusal, unfit_for}
+use Rattle.tap_world.specs.StepControl.{call_of, may_call, peeked}
+use Rattle.tap_world.specs.StepControl.{Call}
+use Rattle.tap_legal.specs.Numbered.{AnswerAt, Asked, EntryAt, StepAt}
+use Rattle.tap_legal.specs.Codes.{same_answer, same_kind}
+use Rattle.tap_legal.specs.Case.{Case}
+use Rattle.tap_legal.specs.Lookups.{answer_of, asked_at, entry_named, table_at}
+
+-- ---- the state of a replay
+
+-- a turn under way on a ring of a vhost, of a command
+pub data Turning : Type 0 where
+  Receiving : RxTurn → Turning
+  Sending : TxTurn → List ChainText → Turning
+
+pub record Under : Type 0 where
+  pub vhost : ℕ
+  pub command : ℕ
+  pub file : ℕ
+  pub turning : Turning
+
+-- a frame that a transmit turn accepted: the turn's command, and the hash of the frame's flow
+pub record Accepted : Type 0 where
+  pub command : ℕ
+  pub flow : ℕ
+
+-- a packet of a receive turn on a file: the frame that was copied, or an overrun with the header's size, the chains
+-- that
+-- it might have, and the bytes that they held
+pub record Packet : Type 0 where
+  pub file : ℕ
+  pub name : Option Name
+  pub header : ℕ
+  pub quota : ℕ
+  pub had : ℕ
+
+-- the memory, the vhosts, the turns under way, the packets, the frames that were accepted, the turns with their
+-- files, the
+-- commands that are done, and the lines that fail; after a step that can't be, no more is replayed
+pub record Replay : Type 0 where
+  pub memory : Contents
+  pub vhosts : List (Option Vhost)
+  pub under : List Under
+  pub packets : List Packet
+  pub accepted : List Accepted
+  pub files : List (ℕ × ℕ)
+  pub finished : List ℕ
+  pub fails : List ℕ
+  pub broken : Bool
+
+-- the line fails, and the replay ends there
+abbrev pub broken_at : ℕ → Replay → Replay
+broken_at line r = record r { fails = r.fails ++ line ∷ []; broken = true }
+
+-- a command is done with this answer
+abbrev pub answers : Case → ℕ → Answer → Replay → Replay
+answers c command x r =
+    let wrong : List ℕ = option_map_or (λ (a : AnswerAt). if same_answer a.answer x then [] else a.line ∷ [])
+        (answer_of c command) [] in
+    record r { finished = command ∷ r.finished; fails = r.fails ++ wrong }
+
+-- the step is the wanted one, or the replay ends there
+abbrev pub if_step : StepAt → Option Kind → Replay → Replay → Replay
+if_step s wanted old new =
+    if option_map_or (same_kind s.at.kind) wanted false then new else broken_at s.line old
+
+-- ---- single calls
+
+abbrev pub called_as : Case → StepAt → ℕ → Replay → Call → Replay
+called_as c s vhost r x =
+    if_step s x.step r
+    (answers c s.at.command x.answer (record r { memory = x.memory; vhosts = with_at vhost x.vhost r.vhosts }))
+
+abbrev pub vhost_named : Command → Option ℕ
+vhost_named (command.Backend vhost ring file) = Some vhost
+vhost_named (command.RxTurn vhost) = Some vhost
+vhost_named (command.TxTurn vhost) = Some vhost
+vhost_named (command.Features vhost bits) = Some vhost
+vhost_named (command.VNum vhost ring n) = Some vhost
+vhost_named (command.VBase vhost ring n) = Some vhost
+vhost_named (command.VAddr vhost ring desc avail used) = Some vhost
+vhost_named (command.GetBase vhost ring) = Some vhost
+vhost_named (command.DriveAt vhost ring addr) = Some vhost
+vhost_named (command.PostIn vhost ring lens) = Some vhost
+vhost_named (command.PostOut vhost ring bytes) = Some vhost
+vhost_named (command.Harvest vhost ring) = Some vhost
+vhost_named other = None
+
+-- a control call meets no turn on its ring; here turns are held by their commands
+abbrev pub replay_call : Case → StepAt → Command → Replay → Option Replay
+replay_call c s k r = do
+  vhost ← vhost_named k
+  v ← at r.vhosts vhost
+  x ← call_of k v r.memory
+  if may_call s.at.command k v then Some (called_as c s vhost r x) else None
+
+abbrev pub replay_bytes : Case → StepAt → Command → Replay → Option Replay
+replay_bytes c s (command.Poke guest addr bytes) r =
+    let bad : Option ℕ = first_bad r.memory.regions addr (length bytes) in
+    Some (if_step s (Some kind.Poke) r
+      (answers c s.at.command (option_map_or (λ b. answer.Fault b) bad answer.Done)
+       (record r { memory = if is_none bad then written r.memory addr bytes else r.memory })))
+replay_bytes c s (command.Peek guest addr len) r =
+    Some (if_step s (Some kind.Peek) r
+      (answers c s.at.command (peeked addr len r.memory (first_bad r.memory.regions addr len)) r))
+replay_bytes c s other r = None
+
+-- ---- a backend
+
+-- the table that a backend is judged by: that at SEEN, or before its own operation
+abbrev pub version_for : AnswerAt → Answer → ℕ
+version_for a (answer.Version version) = version - 1
+version_for a other = a.seen
+
+abbrev pub back_wanted : Case → ℕ → ℕ → Option ℕ → Vhost → Contents → Table → Option Answer
+back_wanted c vhost ring None v m t = if is_none (ring_at ring v.settings).file then Some answer.Done else None
+back_wanted c vhost ring (Some file) v m t =
+    back_answer (ready_refusal ring m v.settings) (back_refusal t vhost ring (Some file))
+        (unfit_for (shape_of t file) v.settings)
+
+abbrev pub back_made : ℕ → Option ℕ → Contents → Vhost → Vhost
+back_made ring None m v = record v { settings = without_backend ring v.settings }
+back_made ring (Some file) m v = record v { settings = with_backend ring file m v.settings }
+
+abbrev pub backed_as : Case → StepAt → ℕ → ℕ → Option ℕ → Vhost → Option Answer → Replay → Replay
+backed_as c s vhost ring file v (Some x) r =
+    if_step s (Some (kind.Backend vhost ring false)) r (answers c s.at.command x r)
+backed_as c s vhost ring file v None r =
+    if_step s (Some (kind.Backend vhost ring true)) r
+    (answers c s.at.command (answer.Version 0)
+        (record r { vhosts = with_at vhost (back_made ring file r.memory v) r.vhosts }))
+
+abbrev pub replay_back : Case → StepAt → Command → Replay → Option Replay
+replay_back c s (command.Backend vhost ring file) r = do
+  v ← at r.vhosts vhost
+  a ← answer_of c s.at.command
+  if is_none (turn_of ring v)
+    then Some
+        (backed_as c s vhost ring file v
+        (back_wanted c vhost ring file v r.memory (table_at c (version_for a a.answer))) r)
+    else None
+replay_back c s other r = None
+
+-- ---- what a receive turn had in hand, read off the steps that come
+
+-- the frame of this name is copied; a frame is put back, or is too long; or none is ready
+pub data Coming : Type 0 where
+  Copies : Name → Coming
+  StaysOrRunsOver : Coming
+  NoFrame : Coming
+
+-- with so many more chains that it may gather; the `notices` of a second fetch stand between it and the copy
+abbrev pub coming : ℕ → List Kind → Coming
+coming left [] = StaysOrRunsOver
+coming left (kind.Copy v ring position (Some name) ∷ ks) = Copies name
+coming zero (kind.Notices v ring on ∷ ks) = coming zero ks
+coming zero (k ∷ ks) = StaysOrRunsOver
+coming (suc left) (kind.Fetch v ring position head ∷ ks) = coming left ks
+coming (suc left) (kind.None v ring ∷ ks) = coming (suc left) ks
+coming (suc left) (kind.Notices v ring on ∷ ks) = coming (suc left) ks
+coming (suc left) (k ∷ ks) = StaysOrRunsOver
+
+-- a frame in hand has a fetch next
+abbrev pub is_fetch : Kind → Bool
+is_fetch (kind.Fetch v ring position head) = true
+is_fetch (kind.None v ring) = true
+is_fetch (kind.Crowded v ring) = true
+is_fetch (kind.Halt v ring fault) = true
+is_fetch other = false
+
+abbrev pub coming_first : ℕ → List Kind → Coming
+coming_first left [] = NoFrame
+coming_first left (k ∷ ks) = if is_fetch k then coming left (k ∷ ks) else NoFrame
+
+-- the frame of a name, as it was placed
+abbrev pub frame_named : Case → Name → Option FrameValue
+frame_named c name = do
+  e ← entry_named c name
+  f ← frame_of c.setup name e.at.len
+  Some (record { name = name; hdr = f.hdr; made = f.ether; mark = length f.ether })
+
+-- a frame that isn't copied: of a Short its length is told, and else it is as long as it may be
+abbrev pub frame_of_length : ℕ → FrameValue
+frame_of_length len = record { name = name_of 0 0; hdr = []; made = []; mark = len }
+
+-- what the turn needed last, where it ended for want of chains
+abbrev pub short_of : ℕ → Answer → Option ℕ
+short_of left (answer.Turn packets bytes (text.Short need had) chains) = only_if (left == packets) need
+short_of left other = None
+
+abbrev pub length_told : Case → ℕ → RxTurn → ℕ
+length_told c command t =
+    option_map_or (λ need. need - t.header)
+    (option_map_or (λ (a : AnswerAt). short_of t.packets a.answer) (answer_of c command) None) (2 ^ 32)
+
+abbrev pub hand_of : Case → ℕ → RxTurn → Coming → Hand
+hand_of c command t (Copies name) = option_map_or (λ f. hand.Got f) (frame_named c name) hand.Off
+hand_of c command t StaysOrRunsOver = hand.Got (frame_of_length (length_told c command t))
+hand_of c command t NoFrame = hand.NotReady 0
+
+-- the kinds of the command's steps to come
+abbrev pub ahead : ℕ → List StepAt → List Kind
+ahead command ss = map (λ (s : StepAt). s.at.kind) (filter (λ (s : StepAt). s.at.command == command) ss)
+
+abbrev pub hand_for : Case → Under → RxTurn → List StepAt → Hand
+hand_for c u t ss = hand_of c u.command t (coming_first (quota t.mergeable) (ahead u.command ss))

@@ -1,0 +1,72 @@
+-- This project's own: the replays of all guests, and what the clauses read off them.
+use Rattle.std.specs.Prelude.{ℕ, ◌==◌, ◌&&◌, ◌||◌, not, if◌then◌else◌, Bool, true, false, List, [], ◌∷◌, ◌++◌, length, nat_le, map, filter, flat_map, Option, Some, None}
+use Rattle.std.specs.List.{list_any}
+use Rattle.std.specs.Option.{option_map_or}
+use Rattle.guest_mem.specs.Regions.{zeroed}
+use Rattle.guest_mem.specs.declared.region.Region.{Region}
+use Rattle.tap_world.specs.ByNumber.{numbered}
+use Rattle.tap_world.specs.Guests.{Vhost, new_vhost}
+use Rattle.tap_legal.specs.Numbered.{StepAt}
+use Rattle.tap_legal.specs.Case.{Case}
+use Rattle.tap_legal.specs.Replay.{Accepted, Packet, Replay}
+use Rattle.tap_legal.specs.ReplayTurns.{replay}
+
+-- ---- the replays
+
+-- the vhosts of a guest, as they begin
+abbrev pub vhosts_on : ℕ → List (Option ℕ) → List (Option Vhost)
+vhosts_on guest [] = []
+vhosts_on guest (g ∷ gs) =
+    option_map_or (λ x. if x == guest then Some (new_vhost x) else None) g None ∷ vhosts_on guest gs
+
+abbrev pub fresh : Case → ℕ → List Region → Replay
+fresh c guest regions = record {
+  memory = zeroed regions;
+  vhosts = vhosts_on guest c.setup.vhosts;
+  under = [];
+  packets = [];
+  accepted = [];
+  files = [];
+  finished = [];
+  fails = [];
+  broken = false;
+}
+
+-- the replay of each guest
+abbrev pub Replays : Type 0
+Replays = List (ℕ × Replay)
+
+abbrev pub replay_of : Case → ℕ × List Region → ℕ × Replay
+replay_of c g = (g.0, replay c (filter (λ (s : StepAt). s.guest == g.0) c.steps) (fresh c g.0 g.1))
+
+abbrev pub replays : Case → Replays
+replays c = map (replay_of c) (numbered 0 c.setup.guests)
+
+-- no step broke a replay
+abbrev pub is_whole : Replays → Bool
+is_whole rs = not (list_any (λ (r : ℕ × Replay). r.1.broken) rs)
+
+-- the file of a turn, as the replay has it
+abbrev pub files_of : ℕ → Replays → List ℕ
+files_of command rs =
+    flat_map (λ (r : ℕ × Replay). map (λ (t : ℕ × ℕ). t.1) (filter (λ (t : ℕ × ℕ). t.0 == command) r.1.files)) rs
+
+-- the turn was replayed to its end
+abbrev pub was_replayed : ℕ → Replays → Bool
+was_replayed command rs = list_any (λ (r : ℕ × Replay). list_any (λ n. n == command) r.1.finished) rs
+
+-- the hashes of the flows of the frames that it accepted, in order
+abbrev pub flows_of : ℕ → Replays → List ℕ
+flows_of command rs =
+    flat_map (λ (r : ℕ × Replay). map (λ (a : Accepted). a.flow)
+        (filter (λ (a : Accepted). a.command == command) r.1.accepted)) rs
+
+-- the packets on a file
+abbrev pub packets_of : ℕ → Replays → List Packet
+packets_of file rs =
+    flat_map (λ (r : ℕ × Replay). filter (λ (p : Packet). p.file == file) r.1.packets) rs
+
+-- they are all of one guest, so that their order is known
+abbrev pub are_of_one : ℕ → Replays → Bool
+are_of_one file rs =
+    nat_le (length (filter (λ (r : ℕ × Replay). list_any (λ (p : Packet). p.file == file) r.1.packets) rs)) 1

@@ -1,0 +1,15 @@
+use Rattle.std.proofs.Common.{refl}
+use Rattle.tap_flow_key.specs.FlowKey as flow_key
+use Rattle.tap_steer.specs.Table as table
+use Rattle.tap_steer.specs.After as after
+use Rattle.tap_steer.specs.Rules as rules
+use Rattle.tap_steer.specs.Select as select
+use Rattle.tap_world.proofs.laws.worked_run.Goals as goal
+
+pub returns-trace : goal.returns-trace
+unfolding flow_key.key table.first after.set_iff rules.refuse rules.set_iff_rules select.select
+returns-trace c = refl
+
+pub returns-full : goal.returns-full
+unfolding flow_key.key table.first after.set_iff rules.refuse rules.set_iff_rules select.select
+returns-full c = refl

@@ -1,0 +1,287 @@
+-- This project's own: what holds in every world that a run can reach, in ten parts, each of what it names.
+use Rattle.std.specs.Prelude.{◌≡◌, ℕ, ◌+◌, ◌-◌, ◌^◌, ◌<◌, ◌≤◌, ◌⊎◌, ◌↔◌, ◌==◌, ◌&&◌, max, not, Bool, true, false, if◌then◌else◌, List, [], ◌∷◌, ◌++◌, length, map, take, drop, slice_get, Option, Some, None, is_some, IsTrue, option_map}
+use Rattle.std.specs.Option.{option_map_or}
+use Rattle.std.specs.List.{AllByRecursion, list_any}
+use Rattle.tap_frame.specs.declared.name.Name.{Name}
+use Rattle.tap_frame.specs.Frame.{FrameValue}
+use Rattle.tap_ledger.specs.declared.fate.Fate.{Fate}
+use Rattle.tap_ledger.specs.declared.fate.Fate.TheVariants as fate
+use Rattle.tap_ledger.specs.declared.side.Side.TheVariants.{Rx, Tx}
+use Rattle.tap_steer.specs.Table.{Table, file_at}
+use Rattle.vhost_queue.specs.Positions.{IsInOrder, Positions, positions_from}
+use Rattle.vhost_queue.specs.Queue.{IsGood, IsQueueSize}
+use Rattle.vhost_dev.specs.Settings.{RingSettings}
+use Rattle.tap_trace.specs.declared.answer.Answer.{Answer}
+use Rattle.tap_trace.specs.declared.answer.Answer.TheVariants as answer
+use Rattle.tap_trace.specs.declared.turn.ChainText.{ChainText}
+use Rattle.tap_trace.specs.declared.turn.ChainText.TheVariants as chain
+use Rattle.tap_world.specs.ByNumber.{at, numbered}
+use Rattle.tap_world.specs.Guests.{Guest, Vhost}
+use Rattle.tap_world.specs.Setup.{Setup}
+use Rattle.tap_world.specs.StepTable.{is_enabled}
+use Rattle.tap_world.specs.Line.{Entry, File, Standing, claimed, count, first_that, freed, in_batch, in_ring, is_empty, is_kept}
+use Rattle.tap_world.specs.Line.Standing.{Batched, Claimed, Cut, Out, Ready}
+use Rattle.tap_world.specs.World.{Actor, Doing, Said, World, name_of, newest, table}
+use Rattle.tap_world.specs.World.Doing.{Backed, Backs, Begun, Changes, Disowned, Given, Hosts, Learns, Opened, Opens, Owns, Placed, Purges, Reads, Receives, Released, Resizes, Routed, Shrinks, Teaches, Transmits, Unbacked, Withdrawn, Withdraws}
+
+-- ---- each file, each vhost, each actor
+
+abbrev pub EachFile : World → (ℕ → File → Type 0) → Type 0
+EachFile w P = (file : ℕ) (f : File) → at w.files file ≡ Some f → P file f
+
+abbrev pub EachVhost : World → (ℕ → Vhost → Type 0) → Type 0
+EachVhost w P = (vhost : ℕ) (v : Vhost) → at w.vhosts vhost ≡ Some v → P vhost v
+
+abbrev pub EachActor : World → (ℕ → Actor → Type 0) → Type 0
+EachActor w P = (actor : ℕ) (a : Actor) → slice_get w.actors actor ≡ Some a → P actor a
+
+-- ---- 1: names
+
+abbrev pub same_name : Name → Name → Bool
+same_name a b = a.actor == b.actor && a.turn == b.turn && a.part == b.part
+
+-- how often a name stands among names, in a line, in all lines, and anywhere
+abbrev pub times_in : Name → List Name → ℕ
+times_in n [] = 0
+times_in n (m ∷ ms) = (if same_name n m then 1 else 0) + times_in n ms
+
+abbrev pub times_on : Name → List Entry → ℕ
+times_on n [] = 0
+times_on n (e ∷ es) = (if same_name n e.name then 1 else 0) + times_on n es
+
+abbrev pub times_placed : Name → List (Option File) → ℕ
+times_placed n [] = 0
+times_placed n (f ∷ fs) = option_map_or (λ (g : File). times_on n g.line) f 0 + times_placed n fs
+
+abbrev pub times : World → Name → ℕ
+times w n = times_in n w.dropped + times_in n w.hosted + times_placed n w.files
+
+-- the accepted names that an answer tells
+abbrev pub got_in : List ChainText → List Name
+got_in [] = []
+got_in (chain.Got name len fnv ∷ cs) = name ∷ got_in cs
+got_in (chain.Refused position bad ∷ cs) = got_in cs
+
+abbrev pub accepted_in : ℕ → ℕ → Answer → List Name
+accepted_in actor n (answer.Placed file place epoch len) = name_of actor n ∷ []
+accepted_in actor n (answer.Dropped file cause) = name_of actor n ∷ []
+accepted_in actor n (answer.Host len fnv) = name_of actor n ∷ []
+accepted_in actor n (answer.Turn packets bytes end chains) = got_in chains
+accepted_in actor n other = []
+
+-- Each name stands at most once; and the accepted names of each command that has ended stand.
+pub record NamesStandOnce (w : World) : Type 0 where
+  pub once : (n : Name) → times w n ≤ 1
+  pub ended : AllByRecursion
+      (λ (x : Said). AllByRecursion (λ n. times w n ≡ 1) (accepted_in x.line.actor x.line.command x.line.answer))
+      w.said
+
+-- ---- 2: lines
+
+-- an entry that comes before another: out before the batch, and the batch before the ring; a cut one anywhere
+abbrev pub rank : Standing → ℕ
+rank (Out fate) = 0
+rank Batched = 1
+rank Ready = 2
+rank (Claimed actor) = 2
+rank Cut = 0
+
+abbrev pub is_cut : Standing → Bool
+is_cut Cut = true
+is_cut other = false
+
+-- of the entries that aren't cut, none comes before one of an earlier part
+abbrev pub ComesLast : ℕ → List Entry → Type 0
+ComesLast r [] = Unit {0}
+ComesLast r (e ∷ es) = ((is_cut e.stands ≡ true) ⊎ (r ≤ rank e.stands)) × ComesLast r es
+
+abbrev pub InThreeParts : List Entry → Type 0
+InThreeParts [] = Unit {0}
+InThreeParts (e ∷ es) = ((is_cut e.stands ≡ true) ⊎ ComesLast (rank e.stands) es) × InThreeParts es
+
+-- an entry that is out has a fate other than Waiting
+abbrev pub has_left : Standing → Bool
+has_left (Out fate.Waiting) = false
+has_left other = true
+
+-- the capacity that a command under way has changed and not published
+abbrev pub capacity_before : World → ℕ → Table → ℕ
+capacity_before w file t = (file_at t file).capacity
+
+-- An entry that is out has a fate. The batch has at most 64. Claimed - freed is at most the capacity, or, between a
+-- resize and its publication, at most the greater of this one and the one before. Claimed is at most 2 ^ 40 - 1.
+pub record HasRoom (before : ℕ) (f : File) : Type 0 where
+  pub parts : InThreeParts f.line
+  pub fates : AllByRecursion (λ (e : Entry). has_left e.stands ≡ true) f.line
+  pub batch : count in_batch f.line ≤ 64
+  pub ring : claimed f ≤ freed f + max f.capacity before
+  pub places : claimed f ≤ 2 ^ 40 - 1
+
+-- ---- 3: claims
+
+-- Each claimed place that isn't put belongs to an actor in mid-call, which has no other.
+abbrev pub ClaimIsHeld : World → ℕ → File → Type 0
+ClaimIsHeld w file f =
+    (i actor : ℕ) (e : Entry) → slice_get f.line i ≡ Some e → e.stands ≡ Claimed actor
+    → (a : Actor) × (slice_get w.actors actor ≡ Some a) × (a.doing ≡ Placed file (f.first + i) e.epoch e.len)
+
+-- ---- 4: epochs
+
+abbrev pub NeverFall : List Entry → Type 0
+NeverFall [] = Unit {0}
+NeverFall (e ∷ es) = AllByRecursion (λ (d : Entry). e.epoch ≤ d.epoch) es × NeverFall es
+
+-- Epochs never fall along a line, none is above the gate's, and what waits has the gate's.
+pub record HasEpochs (f : File) : Type 0 where
+  pub rise : NeverFall f.line
+  pub most : AllByRecursion (λ (e : Entry). e.epoch ≤ f.epoch) f.line
+  pub kept : AllByRecursion (λ (e : Entry). is_kept e.stands ≡ true → e.epoch ≡ f.epoch) f.line
+
+-- ---- 5: shut gates
+
+-- an actor is emptying a file
+abbrev pub is_purging : ℕ → Doing → Bool
+is_purging file (Purges other version) = other == file
+is_purging file doing = false
+
+-- Where the gate is shut and no detach on the file is under way, batch and ring are empty.
+abbrev pub IsEmptyWhenShut : World → ℕ → File → Type 0
+IsEmptyWhenShut w file f =
+    f.shut ≡ true → (is_empty f ≡ true) ⊎ (list_any (λ (a : Actor). is_purging file a.doing) w.actors ≡ true)
+
+-- ---- 6: files and the table
+
+-- what a file has of the table: its epoch, whether its gate is shut, its owner, its capacity and its resizes
+pub record Agreed : Type 0 where
+  pub epoch : ℕ
+  pub shut : Bool
+  pub owner : Option ℕ
+  pub capacity : ℕ
+  pub resizes : ℕ
+
+abbrev pub has_of : File → Agreed
+has_of f = record { epoch = f.epoch; shut = f.shut; owner = f.owner; capacity = f.capacity; resizes = f.resizes }
+
+abbrev pub of_table : Table → ℕ → Agreed
+of_table t file = record {
+  epoch = (file_at t file).epoch;
+  shut = not (is_enabled (file_at t file).attachment);
+  owner = (file_at t file).rx;
+  capacity = (file_at t file).capacity;
+  resizes = (file_at t file).resizes;
+}
+
+-- what the command that holds the writer has on its own file in place of that
+abbrev pub expected : Doing → ℕ → File → Agreed → Agreed
+expected (Opened other) file f x = if other == file then record x { epoch = x.epoch + 1; shut = false } else x
+expected (Withdrawn other version) file f x = if other == file then record x { shut = false } else x
+expected (Shrinks other places cuts) file f x =
+    if other == file then record x { capacity = f.capacity; resizes = x.resizes + 1 } else x
+expected (Owns other version) file f x = if other == file then record x { owner = None } else x
+expected (Disowned other) file f x = if other == file then record x { owner = None } else x
+expected doing file f x = x
+
+-- what the writer's command is doing
+abbrev pub writing : World → Doing
+writing w =
+    option_map_or (λ actor. option_map_or (λ (a : Actor). a.doing) (slice_get w.actors actor) Begun) w.writer Begun
+
+-- A gate has its file's epoch, and is unshut exactly where its file is enabled; the owner is the worker that the table
+-- names; capacity and number of resizes are the table's; but for the command that holds the writer.
+abbrev pub AgreesWithTable : Setup → World → ℕ → File → Type 0
+AgreesWithTable s w file f = has_of f ≡ expected (writing w) file f (of_table (table s w) file)
+
+-- a backend is being set or unset on a file
+abbrev pub is_changing : ℕ → Doing → Bool
+is_changing file (Backed other) = other == file
+is_changing file (Unbacked other) = other == file
+is_changing file (Disowned other) = other == file
+is_changing file (Released other) = other == file
+is_changing file doing = false
+
+-- A vhost's ring has a file as its backend exactly where the table names that vhost for that file and side, but where
+-- the command that holds the writer is setting or unsetting it.
+abbrev pub HasItsBackends : Setup → World → ℕ → Vhost → Type 0
+HasItsBackends s w vhost v =
+    (file : ℕ) → is_changing file (writing w) ≡ false
+    → ((v.settings.rx.file ≡ Some file) ↔ ((file_at (table s w) file).rx ≡ Some vhost))
+    × ((v.settings.tx.file ≡ Some file) ↔ ((file_at (table s w) file).tx ≡ Some vhost))
+
+-- ---- 7: a frame in hand
+
+abbrev pub is_receiving : ℕ → Doing → Bool
+is_receiving file (Receives other t) = other == file && is_some t.held
+is_receiving file doing = false
+
+-- A frame in hand is the batch's front, its worker owns the file, and that worker's receive turn is under way.
+abbrev pub HandIsOwners : World → ℕ → File → Type 0
+HandIsOwners w file f =
+    (vhost : ℕ) → f.hand ≡ Some vhost
+    → (f.owner ≡ Some vhost) × (is_some (first_that in_batch f.line) ≡ true)
+    × (list_any (λ (a : Actor). is_receiving file a.doing) w.actors ≡ true)
+
+-- ---- 8: rings
+
+-- so many published chains from one on stand at the positions from a base on
+abbrev pub IsPublishedFrom : ℕ → ℕ → ℕ → Positions → Type 0
+IsPublishedFrom base start n p = map (λ e. e.0) (take n (drop start p.journal)) ≡ positions_from base n
+
+-- each list of positions that is over has its positions in order; the latest is published, then done, then gathered
+abbrev pub ListsInOrder : List (ℕ × ℕ) → Positions → Type 0
+ListsInOrder [] p = Unit {0}
+ListsInOrder (l ∷ []) p = IsInOrder l.0 l.1 p
+ListsInOrder (l ∷ m ∷ ls) p = IsPublishedFrom l.0 l.1 (m.1 - l.1) p × ListsInOrder (m ∷ ls) p
+
+-- The lists of positions are in order; the ring has a queue size; with a backend it lies in its guest.
+pub record IsRing (g : Guest) (r : RingSettings) : Type 0 where
+  pub lists : ListsInOrder r.lists r.queue.positions
+  pub size : IsQueueSize r.queue.layout.num
+  pub good : is_some r.file ≡ true → IsGood r.queue g.memory
+
+abbrev pub HasRings : World → ℕ → Vhost → Type 0
+HasRings w vhost v = (g : Guest) × (at w.guests v.guest ≡ Some g) × IsRing g v.settings.rx × IsRing g v.settings.tx
+
+-- ---- 9: versions
+
+-- No actor has seen more versions than there are.
+abbrev pub HasSeen : World → ℕ → Actor → Type 0
+HasSeen w actor a = a.seen ≤ newest w
+
+-- ---- 10: who holds what
+
+-- a command holds the writer
+abbrev pub holds : Doing → Bool
+holds Changes = true
+holds (Opens file) = true
+holds (Opened file) = true
+holds (Withdraws file) = true
+holds (Withdrawn file version) = true
+holds (Purges file version) = true
+holds (Resizes file capacity) = true
+holds (Shrinks file places cuts) = true
+holds (Backs None) = true
+holds (Backed file) = true
+holds (Owns file version) = true
+holds (Unbacked file) = true
+holds (Disowned file) = true
+holds (Released file) = true
+holds doing = false
+
+-- The writer is held exactly by the command under way that holds it.
+abbrev pub WriterIsHeld : World → ℕ → Actor → Type 0
+WriterIsHeld w actor a = holds a.doing ≡ option_map_or (λ other. other == actor) w.writer false
+
+-- ---- all ten
+
+pub record IsSound (s : Setup) (w : World) : Type 0 where
+  pub names : NamesStandOnce w
+  pub room : EachFile w (λ file f. HasRoom (capacity_before w file (table s w)) f)
+  pub claims : EachFile w (ClaimIsHeld w)
+  pub epochs : EachFile w (λ file f. HasEpochs f)
+  pub shut : EachFile w (IsEmptyWhenShut w)
+  pub agrees : EachFile w (AgreesWithTable s w)
+  pub backends : EachVhost w (HasItsBackends s w)
+  pub hand : EachFile w (HandIsOwners w)
+  pub rings : EachVhost w (HasRings w)
+  pub seen : EachActor w (HasSeen w)
+  pub writer : EachActor w (WriterIsHeld w)

@@ -1,0 +1,162 @@
+-- This project's own: how a backend is set and unset: its Look, its Drive, its publication, and the owner of its file.
+use Rattle.std.specs.Prelude.{ℕ, ◌+◌, ◌==◌, ◌&&◌, ◌||◌, not, Bool, true, false, if◌then◌else◌, List, [], ◌∷◌, ◌++◌, length, Option, Some, None, is_none, is_some, option_map, unwrap_or}
+use Rattle.std.specs.Option.{option_map_or}
+use Rattle.guest_mem.specs.Memory.{Contents, bytes_from, first_bad, written}
+use Rattle.tap_ledger.specs.declared.side.Side.{Side}
+use Rattle.tap_ledger.specs.declared.side.Side.TheVariants.{Rx, Tx}
+use Rattle.tap_steer.specs.declared.error.TapErr.{TapErr}
+use Rattle.tap_steer.specs.declared.operation.Op.{Op}
+use Rattle.tap_steer.specs.declared.operation.Op.TheVariants as op
+use Rattle.tap_steer.specs.Table.{Table}
+use Rattle.tap_steer.specs.Rules.{refuse}
+use Rattle.tap_steer.specs.Select.{shape_of}
+use Rattle.vhost_dev.specs.declared.error.VhostErr.{VhostErr}
+use Rattle.vhost_dev.specs.Calls.{chosen, with_addr, with_backend, with_base, with_features, with_num, without_backend}
+use Rattle.vhost_dev.specs.Refusals.{addr_refusal, base_refusal, features_refusal, fits_refusal, num_refusal, number_refusal, ready_refusal}
+use Rattle.vhost_dev.specs.Settings.{Settings, ring_at}
+use Rattle.vring_drive.specs.declared.error.DriveErr.{DriveErr}
+use Rattle.vring_drive.specs.declared.error.DriveErr.TheVariants as drive_err
+use Rattle.vring_drive.specs.declared.error.PostErr.{PostErr}
+use Rattle.vring_drive.specs.declared.error.PostErr.TheVariants as post_err
+use Rattle.vring_drive.specs.Area.{drive_refusal}
+use Rattle.vring_drive.specs.Books.{Books, chain_of, first_books, head_of, sent_out}
+use Rattle.vring_drive.specs.Harvests.{Harvest, harvested, harvested_in}
+use Rattle.vring_drive.specs.Posts.{full_pieces, post_in_refusal, post_out_refusal, posted_in, posted_out}
+use Rattle.scen_words.specs.declared.command.Command.{Command}
+use Rattle.scen_words.specs.declared.command.Command.TheVariants as command
+use Rattle.tap_trace.specs.declared.answer.Answer.{Answer}
+use Rattle.tap_trace.specs.declared.answer.Answer.TheVariants as answer
+use Rattle.tap_trace.specs.declared.causes.DriveText.{DriveText}
+use Rattle.tap_trace.specs.declared.causes.DriveText.TheVariants as drive_text
+use Rattle.tap_trace.specs.declared.causes.TapText.{TapText}
+use Rattle.tap_trace.specs.declared.kind.Kind.{Kind}
+use Rattle.tap_trace.specs.declared.kind.Kind.TheVariants as kind
+use Rattle.tap_world.specs.declared.event.Found.TheVariants as found
+use Rattle.tap_world.specs.Then.{◌>>=◌, only_if}
+use Rattle.tap_world.specs.ByNumber.{at}
+use Rattle.tap_world.specs.Causes.{tap_text}
+use Rattle.tap_world.specs.Frames.{Front}
+use Rattle.tap_world.specs.Guests.{Guest, Vhost, driver_of, is_free_for, is_ring, turn_of, vhost_text, with_driver, with_turn}
+use Rattle.tap_world.specs.Setup.{Setup}
+use Rattle.tap_world.specs.LineSteps.Change.{Owned}
+use Rattle.tap_world.specs.World.{Doing, World, newest, table}
+use Rattle.tap_world.specs.World.Doing.{Backed, Backs, Disowned, Owns, Released, Unbacked}
+use Rattle.tap_world.specs.Effect.{Effect, Onward, on_file, only}
+use Rattle.tap_world.specs.Effect.OnGuests.{NoGuest, OnGuest}
+use Rattle.tap_world.specs.Effect.OnVhosts.{NoVhost, OnVhost}
+use Rattle.tap_world.specs.Effect.Onward.{Ends, Goes}
+use Rattle.tap_world.specs.StepControl.{on_ring}
+
+-- ---- a backend
+
+abbrev pub side_of : ℕ → Side
+side_of ring = if ring == 0 then Rx else Tx
+
+-- the table's refusal of a backend; a ring that there isn't is for the vhost to refuse
+abbrev pub back_refusal : Table → ℕ → ℕ → Option ℕ → Option TapText
+back_refusal t vhost ring None = None
+back_refusal t vhost ring (Some file) =
+    if is_ring ring then option_map tap_text (refuse t (op.Back file (side_of ring) (Some vhost))) else None
+
+-- Look: it holds writer and turn from now on, unless the table refuses it
+abbrev pub back_seen : World → ℕ → ℕ → ℕ → Vhost → Option TapText → Effect
+back_seen w actor vhost ring v (Some refusal) =
+    only (Goes (newest w) (Backs (Some refusal)) (found.Version (newest w))) w
+back_seen w actor vhost ring v None = record (only (Goes (newest w) (Backs None) (found.Version (newest w))) w) {
+  vhosts = OnVhost vhost (if is_ring ring then with_turn ring (Some actor) v else v);
+  writer = Some actor;
+}
+
+abbrev pub looks_to_back : Table → World → ℕ → Command → Option Effect
+looks_to_back t w actor (command.Backend vhost ring file) = do
+  v ← at w.vhosts vhost
+  only_if (is_none w.writer && (not (is_ring ring) || is_none (turn_of ring v)))
+    (back_seen w actor vhost ring v (back_refusal t vhost ring file))
+looks_to_back t w actor other = None
+
+-- it ends, and gives back what it holds
+abbrev pub back_ends : World → ℕ → ℕ → ℕ → ℕ → Option TapText → Vhost → Contents → Answer → Option Kind → Effect
+back_ends w actor seen vhost ring refusal v m x step = record (only (Ends seen x) w) {
+  guests = option_map_or (λ k. OnGuest v.guest m (Some k)) step NoGuest;
+  vhosts = OnVhost vhost (if is_ring ring && is_none refusal then with_turn ring None v else v);
+  writer = if is_none refusal then None else w.writer;
+}
+
+-- the refusals of a set backend in their order: the ring isn't ready, the table's, the header doesn't fit
+abbrev pub back_answer : Option VhostErr → Option TapText → Option VhostErr → Option Answer
+back_answer (Some e) refusal unfit = Some (answer.Vhost (vhost_text e))
+back_answer None (Some r) unfit = Some (answer.Tap r)
+back_answer None None (Some e) = Some (answer.Vhost (vhost_text e))
+back_answer None None None = None
+
+abbrev pub unfit_for : Option Front → Settings → Option VhostErr
+unfit_for None s = None
+unfit_for (Some front) s = fits_refusal front s
+
+abbrev pub sets_back : World → ℕ → ℕ → ℕ → ℕ → ℕ → Option TapText → Vhost → Contents → Option Answer → Effect
+sets_back w actor seen vhost ring file refusal v m (Some x) =
+    back_ends w actor seen vhost ring refusal v m x (on_ring ring (kind.Backend vhost ring false))
+sets_back w actor seen vhost ring file refusal v m None =
+    record (only (Goes seen (Backed file) (found.Step (kind.Backend vhost ring true))) w) {
+      guests = OnGuest v.guest m (Some (kind.Backend vhost ring true));
+      vhosts = OnVhost vhost (record v { settings = with_backend ring file m v.settings });
+    }
+
+-- unset: where the ring had one, the file is given back, if it receives, and the table is told
+abbrev pub unsets_back : World → ℕ → ℕ → ℕ → ℕ → Vhost → Contents → Option VhostErr → Option ℕ → Effect
+unsets_back w actor seen vhost ring v m (Some e) file =
+    back_ends w actor seen vhost ring None v m (answer.Vhost (vhost_text e)) None
+unsets_back w actor seen vhost ring v m None None =
+    back_ends w actor seen vhost ring None v m answer.Done (Some (kind.Backend vhost ring false))
+unsets_back w actor seen vhost ring v m None (Some file) =
+    record (only
+        (Goes seen (if ring == 0 then Unbacked file else Released file) (found.Step (kind.Backend vhost ring true)))
+        w) {
+      guests = OnGuest v.guest m (Some (kind.Backend vhost ring true));
+      vhosts = OnVhost vhost (record v { settings = without_backend ring v.settings });
+    }
+
+abbrev pub back_call : Setup → World → ℕ → ℕ → Option TapText → ℕ → ℕ → Option ℕ → Vhost → Contents → Effect
+back_call s w actor seen refusal vhost ring None v m =
+    unsets_back w actor seen vhost ring v m (number_refusal ring) (ring_at ring v.settings).file
+back_call s w actor seen refusal vhost ring (Some file) v m =
+    sets_back w actor seen vhost ring file refusal v m
+    (back_answer (ready_refusal ring m v.settings) refusal (unfit_for (shape_of (table s w) file) v.settings))
+
+-- Drive, of a backend
+abbrev pub backs : Setup → World → ℕ → ℕ → Doing → Command → Option Effect
+backs s w actor seen (Backs refusal) (command.Backend vhost ring file) = do
+  v ← at w.vhosts vhost
+  g ← at w.guests v.guest
+  only_if (is_free_for actor ring v) (back_call s w actor seen refusal vhost ring file v g.memory)
+backs s w actor seen doing c = None
+
+-- its publication, and its end, which gives back writer and turn
+abbrev pub back_over : World → ℕ → ℕ → ℕ → ℕ → Effect
+back_over w seen vhost ring version = record (only (Ends seen (answer.Version version)) w) {
+  vhosts = option_map_or (λ v. OnVhost vhost (with_turn ring None v)) (at w.vhosts vhost) NoVhost;
+  writer = None;
+}
+
+abbrev pub publishes_back : World → Doing → Command → Option Effect
+publishes_back w (Backed file) (command.Backend vhost ring asked) =
+    let x : Op = op.Back file (side_of ring) (Some vhost) in
+    Some (if ring == 0
+      then record
+          (only (Goes (newest w + 1) (Owns file (newest w + 1)) (found.Version (newest w + 1))) w) { ops = x ∷ [] }
+      else record (back_over w (newest w + 1) vhost ring (newest w + 1)) { ops = x ∷ [] })
+publishes_back w (Disowned file) (command.Backend vhost ring asked) =
+    Some (record (back_over w (newest w + 1) vhost ring (newest w + 1)) { ops = op.Back file (side_of ring) None ∷ [] })
+publishes_back w (Released file) (command.Backend vhost ring asked) =
+    Some (record (back_over w (newest w + 1) vhost ring (newest w + 1)) { ops = op.Back file (side_of ring) None ∷ [] })
+publishes_back w doing c = None
+
+-- Owner, changing: the worker, or none; a file in hand has no other owner
+abbrev pub owns : World → ℕ → Doing → Command → Option Effect
+owns w seen (Owns file version) (command.Backend vhost ring asked) =
+    Some (record
+        (back_over w seen vhost ring version)
+        { files = (on_file file (Owned (Some vhost)) (Ends seen answer.Done) w).files })
+owns w seen (Unbacked file) (command.Backend vhost ring asked) =
+    Some (on_file file (Owned None) (Goes seen (Disowned file) (found.Owner None)) w)
+owns w seen doing c = None

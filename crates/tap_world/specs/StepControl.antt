@@ -1,0 +1,207 @@
+-- This project's own: the events Poke, Peek and Drive: bytes of a guest's memory, the control calls of a vhost, and its
+-- drivers.
+use Rattle.std.specs.Prelude.{ℕ, ◌+◌, ◌==◌, ◌&&◌, ◌||◌, not, Bool, true, false, if◌then◌else◌, List, [], ◌∷◌, ◌++◌, length, Option, Some, None, is_none, is_some, option_map, unwrap_or}
+use Rattle.std.specs.Option.{option_map_or}
+use Rattle.guest_mem.specs.Memory.{Contents, bytes_from, first_bad, written}
+use Rattle.tap_ledger.specs.declared.side.Side.{Side}
+use Rattle.tap_ledger.specs.declared.side.Side.TheVariants.{Rx, Tx}
+use Rattle.tap_steer.specs.declared.error.TapErr.{TapErr}
+use Rattle.tap_steer.specs.declared.operation.Op.{Op}
+use Rattle.tap_steer.specs.declared.operation.Op.TheVariants as op
+use Rattle.tap_steer.specs.Table.{Table}
+use Rattle.tap_steer.specs.Rules.{refuse}
+use Rattle.tap_steer.specs.Select.{shape_of}
+use Rattle.vhost_dev.specs.declared.error.VhostErr.{VhostErr}
+use Rattle.vhost_dev.specs.Calls.{chosen, with_addr, with_backend, with_base, with_features, with_num, without_backend}
+use Rattle.vhost_dev.specs.Refusals.{addr_refusal, base_refusal, features_refusal, fits_refusal, num_refusal, number_refusal, ready_refusal}
+use Rattle.vhost_dev.specs.Settings.{Settings, ring_at}
+use Rattle.vring_drive.specs.declared.error.DriveErr.{DriveErr}
+use Rattle.vring_drive.specs.declared.error.DriveErr.TheVariants as drive_err
+use Rattle.vring_drive.specs.declared.error.PostErr.{PostErr}
+use Rattle.vring_drive.specs.declared.error.PostErr.TheVariants as post_err
+use Rattle.vring_drive.specs.Area.{drive_refusal}
+use Rattle.vring_drive.specs.Books.{Books, chain_of, first_books, head_of, sent_out}
+use Rattle.vring_drive.specs.Harvests.{Harvest, harvested, harvested_in}
+use Rattle.vring_drive.specs.Posts.{full_pieces, post_in_refusal, post_out_refusal, posted_in, posted_out}
+use Rattle.scen_words.specs.declared.command.Command.{Command}
+use Rattle.scen_words.specs.declared.command.Command.TheVariants as command
+use Rattle.tap_trace.specs.declared.answer.Answer.{Answer}
+use Rattle.tap_trace.specs.declared.answer.Answer.TheVariants as answer
+use Rattle.tap_trace.specs.declared.causes.DriveText.{DriveText}
+use Rattle.tap_trace.specs.declared.causes.DriveText.TheVariants as drive_text
+use Rattle.tap_trace.specs.declared.causes.TapText.{TapText}
+use Rattle.tap_trace.specs.declared.kind.Kind.{Kind}
+use Rattle.tap_trace.specs.declared.kind.Kind.TheVariants as kind
+use Rattle.tap_world.specs.declared.event.Found.TheVariants as found
+use Rattle.tap_world.specs.Then.{◌>>=◌, only_if}
+use Rattle.tap_world.specs.ByNumber.{at}
+use Rattle.tap_world.specs.Causes.{tap_text}
+use Rattle.tap_world.specs.Frames.{Front}
+use Rattle.tap_world.specs.Guests.{Guest, Vhost, driver_of, is_free_for, is_ring, turn_of, vhost_text, with_driver, with_turn}
+use Rattle.tap_world.specs.Setup.{Setup}
+use Rattle.tap_world.specs.LineSteps.Change.{Owned}
+use Rattle.tap_world.specs.World.{Doing, World, newest, table}
+use Rattle.tap_world.specs.World.Doing.{Backed, Backs, Disowned, Owns, Released, Unbacked}
+use Rattle.tap_world.specs.Effect.{Effect, Onward, on_file, only}
+use Rattle.tap_world.specs.Effect.OnGuests.{NoGuest, OnGuest}
+use Rattle.tap_world.specs.Effect.OnVhosts.{NoVhost, OnVhost}
+use Rattle.tap_world.specs.Effect.Onward.{Ends, Goes}
+
+-- ---- bytes of a guest
+
+abbrev pub poked : World → ℕ → ℕ → ℕ → List ℕ → Contents → Option ℕ → Effect
+poked w seen guest addr bytes m None =
+    record (only (Ends seen answer.Done) w) { guests = OnGuest guest (written m addr bytes) (Some kind.Poke) }
+poked w seen guest addr bytes m (Some bad) =
+    record (only (Ends seen (answer.Fault bad)) w) { guests = OnGuest guest m (Some kind.Poke) }
+
+abbrev pub peeked : ℕ → ℕ → Contents → Option ℕ → Answer
+peeked addr len m None = answer.Peeked (bytes_from m.bytes addr len)
+peeked addr len m (Some bad) = answer.Fault bad
+
+-- Poke and Peek: the bytes, or the first address that isn't there
+abbrev pub pokes : World → ℕ → Command → Option Effect
+pokes w seen (command.Poke guest addr bytes) = do
+  g ← at w.guests guest
+  Some (poked w seen guest addr bytes g.memory (first_bad g.memory.regions addr (length bytes)))
+pokes w seen (command.Peek guest addr len) = do
+  g ← at w.guests guest
+  Some (record (only (Ends seen (peeked addr len g.memory (first_bad g.memory.regions addr len))) w)
+    { guests = OnGuest guest g.memory (Some kind.Peek) })
+pokes w seen other = None
+
+-- ---- a call on a vhost or a driver
+
+-- what a call makes of the vhost and of its guest's memory, its answer, and its step
+pub record Call : Type 0 where
+  pub vhost : Vhost
+  pub memory : Contents
+  pub answer : Answer
+  pub step : Option Kind
+
+-- a control call that may be refused: the settings stay where it is; a ring that there isn't has no step
+abbrev pub told_by : Option VhostErr → Answer → Answer
+told_by None x = x
+told_by (Some e) x = answer.Vhost (vhost_text e)
+
+abbrev pub called : Option VhostErr → Settings → Answer → Option Kind → Vhost → Contents → Call
+called refusal changed x step v m = record {
+  vhost = record v { settings = chosen refusal v.settings changed };
+  memory = m;
+  answer = told_by refusal x;
+  step = step;
+}
+
+abbrev pub on_ring : ℕ → Kind → Option Kind
+on_ring ring k = only_if (is_ring ring) k
+
+-- ---- drivers
+
+-- the words in which a trace tells refusals; want of memory is none of them
+abbrev pub drive_told : DriveErr → DriveText
+drive_told drive_err.Unaligned = drive_text.Unaligned
+drive_told (drive_err.Outside bad) = drive_text.Outside bad
+drive_told drive_err.NoMemory = drive_text.Unaligned
+
+abbrev pub post_told : PostErr → DriveText
+post_told (post_err.TooLong len) = drive_text.TooLong len
+post_told (post_err.Full need free) = drive_text.Full need free
+post_told post_err.NoMemory = drive_text.Unaligned
+
+-- what a driver's call leaves: its books, the memory, and the answer
+abbrev pub driven : ℕ → Kind → Vhost → Books → Contents → Answer → Call
+driven ring k v b m x = record { vhost = with_driver ring b v; memory = m; answer = x; step = Some k }
+
+abbrev pub undriven : Kind → Vhost → Contents → Answer → Call
+undriven k v m x = record { vhost = v; memory = m; answer = x; step = Some k }
+
+-- a driver is set up with the ring's number and event indexes of now
+abbrev pub drives : ℕ → ℕ → ℕ → Vhost → Contents → Call
+drives vhost ring addr v m =
+    let q = (ring_at ring v.settings).queue.layout in
+    option_map_or (λ e. undriven (kind.Drive vhost ring) v m (answer.Drive (drive_told e))) (drive_refusal m addr q.num)
+    (driven ring (kind.Drive vhost ring) v (first_books addr q.num q.event) m answer.Done)
+
+abbrev pub posts : ℕ → ℕ → Option PostErr → ℕ → Contents → Books → Vhost → Contents → Call
+posts vhost ring (Some e) need after b v m = undriven (kind.Post vhost ring) v m (answer.Drive (post_told e))
+posts vhost ring None need after b v m =
+    driven ring (kind.Post vhost ring) v (sent_out need b) after (answer.Posted (head_of (chain_of need b)))
+
+abbrev pub harvest_told : Harvest → Answer
+harvest_told h = option_map_or (λ id. answer.Drive (drive_text.Stray id)) h.stray (answer.Harvested h.found)
+
+abbrev pub harvests : ℕ → ℕ → Books → Vhost → Contents → Call
+harvests vhost ring b v m =
+    driven ring (kind.Harvest vhost ring) v (harvested m b).books (harvested_in m b) (harvest_told (harvested m b))
+
+-- without a driver
+abbrev pub with_books : Kind → Vhost → Contents → Option Books → (Books → Call) → Call
+with_books k v m None call = undriven k v m answer.NoDriver
+with_books k v m (Some b) call = call b
+
+-- ---- Drive, of one whole call
+
+abbrev pub call_of : Command → Vhost → Contents → Option Call
+call_of (command.Features vhost bits) v m =
+    Some (called (features_refusal bits v.settings) (with_features bits v.settings) answer.Done
+        (Some (kind.Features vhost)) v m)
+call_of (command.VNum vhost ring n) v m =
+    Some (called (num_refusal ring n v.settings) (with_num ring n v.settings) answer.Done
+        (on_ring ring (kind.Num vhost ring)) v m)
+call_of (command.VBase vhost ring n) v m =
+    Some (called (base_refusal ring n v.settings) (with_base ring n v.settings) answer.Done
+        (on_ring ring (kind.Base vhost ring)) v m)
+call_of (command.VAddr vhost ring desc avail used) v m =
+    Some (called (addr_refusal ring desc avail used m v.settings)
+        (with_addr ring desc avail used v.settings) answer.Done
+      (on_ring ring (kind.Addr vhost ring)) v m)
+call_of (command.GetBase vhost ring) v m =
+    Some (called (number_refusal ring) v.settings (answer.Base (ring_at ring v.settings).queue.positions.next)
+      (on_ring ring (kind.GetBase vhost ring)) v m)
+call_of (command.DriveAt vhost ring addr) v m = Some (drives vhost ring addr v m)
+call_of (command.PostIn vhost ring lens) v m =
+    Some (with_books (kind.Post vhost ring) v m (driver_of ring v)
+      (λ b. posts vhost ring (post_in_refusal lens b) (length lens) (posted_in b lens m) b v m))
+call_of (command.PostOut vhost ring bytes) v m =
+    Some (with_books (kind.Post vhost ring) v m (driver_of ring v)
+      (λ b. posts vhost ring (post_out_refusal (length bytes) b) (full_pieces (length bytes) + 1)
+          (posted_out b bytes m) b v m))
+call_of (command.Harvest vhost ring) v m =
+    Some (with_books (kind.Harvest vhost ring) v m (driver_of ring v) (λ b. harvests vhost ring b v m))
+call_of other v m = None
+
+-- a control call waits for the ring's turn, `features` for both; a driver's call doesn't
+abbrev pub may_call : ℕ → Command → Vhost → Bool
+may_call actor (command.Features vhost bits) v = is_free_for actor 0 v && is_free_for actor 1 v
+may_call actor (command.VNum vhost ring n) v = is_free_for actor ring v
+may_call actor (command.VBase vhost ring n) v = is_free_for actor ring v
+may_call actor (command.VAddr vhost ring desc avail used) v = is_free_for actor ring v
+may_call actor (command.GetBase vhost ring) v = is_free_for actor ring v
+may_call actor other v = true
+
+abbrev pub call_effect : World → ℕ → ℕ → ℕ → Call → Effect
+call_effect w seen vhost guest c = record (only (Ends seen c.answer) w) {
+  guests = option_map_or (λ k. OnGuest guest c.memory (Some k)) c.step NoGuest;
+  vhosts = OnVhost vhost c.vhost;
+}
+
+-- the vhost of a command, with its number
+abbrev pub vhost_of : Command → Option ℕ
+vhost_of (command.Features vhost bits) = Some vhost
+vhost_of (command.VNum vhost ring n) = Some vhost
+vhost_of (command.VBase vhost ring n) = Some vhost
+vhost_of (command.VAddr vhost ring desc avail used) = Some vhost
+vhost_of (command.GetBase vhost ring) = Some vhost
+vhost_of (command.DriveAt vhost ring addr) = Some vhost
+vhost_of (command.PostIn vhost ring lens) = Some vhost
+vhost_of (command.PostOut vhost ring bytes) = Some vhost
+vhost_of (command.Harvest vhost ring) = Some vhost
+vhost_of other = None
+
+abbrev pub calls : World → ℕ → ℕ → Command → Option Effect
+calls w actor seen c = do
+  vhost ← vhost_of c
+  v ← at w.vhosts vhost
+  g ← at w.guests v.guest
+  x ← call_of c v g.memory
+  only_if (may_call actor c v) (call_effect w seen vhost v.guest x)
