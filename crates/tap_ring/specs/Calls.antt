@@ -58,6 +58,9 @@ pub record IsConsumer (v : View) : Type 0 where
 pub record IsKeeper (v : View) : Type 0 where
   pub keeps : v.keeps ≡ true
   pub resizes : v.gate.resizes < 2 ^ 7
+  pub parts : v.parts ≡ 0
+  pub mine : v.mine ≡ []
+  pub putting : v.putting ≡ None
   pub spent : v.spent ≡ false
 
 -- it is the same token, with the same claims, and the same frames lifted
@@ -245,11 +248,13 @@ AllStand first line [] = Unit {0}
 AllStand first line (t ∷ ts) = EachClaim (StandsIn first line) t.view.mine × AllStand first line ts
 
 -- What was lifted and what is left are the frames of all places, in order; each place is one producer's claim, once, with
--- the frame that it put.
-pub record IsEnd (first : ℕ) (all : List Token) (c : View) (claimed freed lifted : ℕ) (left : List FrameValue) : Type 0 where
+-- the frame that it put. No place was given out since the keeper shut the gate, if it is shut.
+pub record IsEnd (first : ℕ) (all : List Token) (c k : View) (claimed freed lifted : ℕ) (left : List FrameValue) : Type 0 where
   pub lifted_is : lifted ≡ first + length c.lifted
   pub freed_is : freed ≡ c.freed
   pub claimed_is : claimed ≡ first + length (c.lifted ++ left)
   pub once : (p : ℕ) → claims_to p all ≡ within first claimed p
   pub stand : AllStand first (c.lifted ++ left) all
   pub order : (first ≤ freed) × (freed ≤ lifted) × (lifted ≤ claimed)
+  pub later : k.gate.claimed ≤ claimed
+  pub still : k.gate.shut ≡ true → claimed ≡ k.gate.claimed

@@ -158,6 +158,10 @@ the_consumer v = record v { parts = 0; keeps = false }
 abbrev pub with_producer : View → View → View
 with_producer v w = record v { parts = v.parts + w.parts; mine = v.mine ++ w.mine }
 
+-- the keeper's part comes to another seat
+abbrev pub with_keeper : View → View → View
+with_keeper v w = record v { keeps = true; stored = None; gate = w.gate }
+
 abbrev pub no_plan : Plan
 no_plan = record { first = 0; capacity = 0; producers = 0 }
 

@@ -12,5 +12,5 @@ invariant-loop-i l = record {
   ahead : (k : ℕ) → l.i ≤ k → slice_index_or (slots_filled l.closed.slots) k false ≡ slice_index_or (slots_filled l.fn.closed.slots) k false;
   left : l.left.items ≡ l.fn.left.items ++ present (take (l.i - l.from) (drop l.from (slots_items l.fn.closed.slots)));
   capacity : vec_capacity l.left ≡ vec_capacity l.fn.left;
-  room : vec_len l.left ≤ vec_len l.fn.left + (l.i - l.from)
+  room : vec_len l.left ≤ vec_len l.fn.left + (l.i - l.from);
 }

@@ -15,5 +15,5 @@ invariant-loop-p l = record {
   putting : l.seat.me.0.putting ≡ None;
   slots : l.seat.me.1 ≡ [];
   gathered_so_far : gathered l.seat.me.0 l.all.items ≡ gathered l.fn.seat.me.0 l.fn.all.items;
-  parts : l.seat.me.0.parts + length l.all.items ≡ l.fn.seat.me.0.parts + length l.fn.all.items
+  parts : l.seat.me.0.parts + length l.all.items ≡ l.fn.seat.me.0.parts + length l.fn.all.items;
 }
