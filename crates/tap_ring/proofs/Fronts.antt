@@ -24,7 +24,6 @@ use Rattle.tap_ring.specs.Steps.{Seated, RingStep, IsNew, claim, with_claim, see
 use Rattle.tap_ring.proofs.Kit.{off, on, some_not_none, some_is, before_end, set_there, parts_equal, GoesOn, past_stays, past_later, goes_same, entered_longer, entered_once, entered_below, each_append, each_map, total_set, times-append, within_more, slots_apart}
 use Rattle.tap_ring.proofs.Stays.{Apart, Still, seats_set, place_stays, entered_in, word_same, home_same, frames_front}
 use Rattle.tap_ring.proofs.Loads.{past_now, new_now, still_set, hand_set, looked, gate_knows}
-
 use Rattle.tap_ring.proofs.Kit.{take_next}
 use Rattle.tap_ring.proofs.Loads.{apart_same, loaded}
 use Rattle.tap_ring.proofs.Claims.{caps_apart, place_words_apart}

@@ -36,12 +36,7 @@ fn words_of(alloc: Global, most: u16, capacity: u16, first: u64) -> Result<Vec<u
 }
 
 // The producers leave the first seat, one by one.
-fn deal(
-    places: &Places,
-    seat: &mut RingSeat,
-    mut all: Vec<Producer>,
-    count: u16,
-) -> Vec<Producer>
+fn deal(places: &Places, seat: &mut RingSeat, mut all: Vec<Producer>, count: u16) -> Vec<Producer>
     requires ring { (seat.old.table_id ≡ places.now.table_id) × (0 < places.now.table_id.words) }
     requires maker { seat.old.me ≡ (maker_of places.now.key count, []) }
     requires room { (vec_len all ≡ 0) × (count ≤ vec_capacity all) }
@@ -57,8 +52,9 @@ fn deal(
 }
 
 impl TapRing {
-    /// A ring with so many slots, this capacity and this first place, for so many producers. It is
-    /// shut, at epoch 0. All memory that it ever takes is taken here.
+    /// A ring with `most` slots (1 to 1,024), this capacity (1 to `most`) and this first place (below
+    /// 2^40), for so many producers (1 or more). It is shut, at epoch 0. All memory that it ever takes
+    /// is taken here, and the only error is that there is none.
     pub fn new(
         alloc: Global,
         most: u16,

@@ -8,5 +8,5 @@ invariant-loop l = record {
   ring : l.seat.table_id ≡ l.fn.seat.table_id;
   maker : l.seat.me ≡ (maker_of l.places.key (l.fn.count - l.counter), []);
   all : l.all.items ≡ replicate l.counter (token l.places.table_id (new_producers l.places.key 1));
-  room : l.fn.count ≤ vec_capacity l.all
+  room : l.fn.count ≤ vec_capacity l.all;
 }
