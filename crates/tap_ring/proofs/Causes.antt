@@ -1,14 +1,14 @@
 -- From what the steps of a put told to what the call promises.
-use Rattle.std.proofs.Common.{◌≡◌, ◌≢◌, ℕ, ◌+◌, ◌^◌, ◌≤◌, ◌<◌, List, [], ◌∷◌, ◌++◌, Bool, true, false, refl, sym, ap, ◌∙◌, subst, arith}
+use Rattle.std.proofs.Common.{◌≡◌, ℕ, ◌+◌, ◌^◌, ◌<◌, [], ◌∷◌, ◌++◌, refl, sym, ap, ◌∙◌, subst, arith, ◌≤◌}
 use Rattle.tap_frame.specs.Frame.{FrameValue}
 use Rattle.tap_ring.specs.declared.rule.Moment.{Moment}
 use Rattle.tap_ring.specs.declared.rule.Claim.{Claim}
 use Rattle.tap_ring.specs.declared.rule.View.{View}
 use Rattle.tap_ring.specs.GateWord.{claimed_of, is_shut, epoch_of, resizes_of}
-use Rattle.tap_ring.specs.Moments.{Fits, IsLater, IsOpen, IsSpent, HasRoom, gate_of}
+use Rattle.tap_ring.specs.Moments.{Fits, IsOpen, gate_of}
 use Rattle.tap_ring.specs.Standing.{EachClaim}
-use Rattle.tap_ring.specs.Steps.{IsNew, claim, with_claim, seen_gate, seen_capacity, seen_freed, ClaimedThen}
-use Rattle.tap_ring.specs.Calls.{Asked, Placed, IsOpenWord}
+use Rattle.tap_ring.specs.Steps.{IsNew, claim, seen_gate, seen_capacity, seen_freed, ClaimedThen}
+use Rattle.tap_ring.specs.Calls.{Placed, IsOpenWord}
 use Rattle.tap_ring.proofs.Kit.{parts_equal, gate_parts}
 
 -- the parts of a moment's gate word

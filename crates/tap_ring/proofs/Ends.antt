@@ -1,26 +1,24 @@
 -- What the rule says once all producers' claims are with the consumer's seat: whose each place is, and what lies in each slot.
-use Rattle.std.proofs.Common.{◌≡◌, ◌≢◌, ◌⊎◌, ℕ, zero, suc, ◌+◌, ◌-◌, ◌^◌, ◌%◌, ◌≤◌, ◌<◌, eqb, List, [], ◌∷◌, ◌++◌, map, take, drop, length, set, Some, None, Option, Bool, true, false, refl, sym, ap, ◌∙◌, subst, ⊎_elim, le_refl, arith, length-append, length-drop, take-append-drop, mod-lt}
-use Rattle.std.specs.Prelude.{slice_get, slice_index}
+use Rattle.std.proofs.Common.{◌≡◌, ◌≢◌, ◌⊎◌, ℕ, zero, suc, ◌+◌, ◌-◌, ◌%◌, ◌≤◌, ◌<◌, eqb, List, [], ◌∷◌, ◌++◌, take, drop, length, Some, None, Option, true, false, refl, sym, ap, ◌∙◌, subst, ⊎_elim, arith, length-append, length-drop, take-append-drop, mod-lt}
+use Rattle.std.specs.Prelude.{slice_index}
 use Rattle.std.proofs.lemmas.Bool.Decides.{eqb_tells}
 use Rattle.std.proofs.lemmas.List.{length-map}
-use mathlib.Core.Option.{none, some, some-ne-none, some-injective}
-use mathlib.Core.Option as maybe
+use mathlib.Core.Option.{some, some-ne-none, some-injective}
 use lib.ListN.{get_elem?}
 use native.Mathlib.Nat.{mod-add-mod}
-use Rattle.atomic_table.specs.Table.{State, Final, Seen}
+use Rattle.atomic_table.specs.Table.{Final, Seen}
 use Rattle.tap_frame.specs.Frame.{FrameValue}
 use Rattle.tap_ring.specs.declared.rule.Moment.{Moment}
 use Rattle.tap_ring.specs.declared.rule.Claim.{Claim}
 use Rattle.tap_ring.specs.declared.rule.View.{View}
 use Rattle.tap_ring.specs.declared.rule.Plan.{Plan}
 use Rattle.tap_ring.specs.GateWord.{claimed_of}
-use Rattle.tap_ring.specs.Moments.{Fits, gate_of}
-use Rattle.tap_ring.specs.Standing.{RingState, Placing, Standing, slots_of, slot_at, word_at, home_at, IsEntered, IsReady, IsClaimed, IsInHand, IsPlace, EachClaim, KnowsClaims, KnowsFront, Knows, Ring, frames_of, times, total, within}
+use Rattle.tap_ring.specs.Standing.{RingState, Placing, slots_of, home_at, IsEntered, IsReady, IsClaimed, IsInHand, EachClaim, KnowsFront, Ring, frames_of, times, total, within}
 use Rattle.tap_ring.specs.Steps.{with_producer, with_keeper}
 use Rattle.tap_ring.specs.Calls.{Token, StandsIn, AllStand, IsEnd, claims_to}
 use Rattle.tap_ring.specs.Leaving.{present, slots_from, gathered}
-use Rattle.tap_ring.proofs.Kit.{some_not_none, some_is, before_end, entered_once, entered_below, each_map, times-append}
-use Rattle.tap_ring.proofs.Lines.{get_drop, get_there, slice_there, map_there, rotated, present_is}
+use Rattle.tap_ring.proofs.Kit.{some_not_none, before_end, each_map, times-append}
+use Rattle.tap_ring.proofs.Lines.{get_drop, slice_there, map_there, rotated, present_is}
 use Rattle.tap_ring.proofs.Causes.{word_parts}
 use Rattle.atomic_table.proofs.Lists.{at_map}
 

@@ -1,34 +1,20 @@
 -- The steps of the keeper: shut, reopen, the store of a capacity, and the addition to the number of resizes.
-use Rattle.std.proofs.Common.{◌≡◌, ◌≢◌, ◌⊎◌, ℕ, zero, suc, ◌+◌, ◌*◌, ◌^◌, ◌%◌, ◌≤◌, ◌<◌, ◌==◌, eqb, List, [], ◌∷◌, ◌++◌, take, length, set, get_or, Some, None, Option, Bool, true, false, refl, sym, ap, ◌∙◌, subst, ⊎_elim, inl, inr, le_refl, le_trans, arith, append-nil, le_antisymm, ltb, ltb-true, ltb-false, length-append, length-set, mod-lt, le_of_eq, get_or-set_same, get_or-set_other, suc-ne-zero}
-use Rattle.std.specs.Prelude.{slice_index, slice_set, MatchBool}
-use Rattle.std.proofs.lemmas.List.{set-get_or}
-use Rattle.std.proofs.lemmas.Bool.Decides.{eqb_tells}
-use mathlib.Core.Path.{Path}
-use mathlib.Core.Option.{none, some, some-injective}
-use mathlib.Core.Option as maybe
+use Rattle.std.proofs.Common.{◌≡◌, ◌≢◌, ℕ, ◌+◌, ◌^◌, ◌%◌, ◌≤◌, ◌<◌, [], set, Some, None, Option, Bool, true, false, refl, sym, ap, ◌∙◌, subst, le_refl, arith, append-nil, length-set, get_or-set_same, get_or-set_other}
+use Rattle.std.specs.Prelude.{slice_index, slice_set}
+use mathlib.Core.Option.{none, some}
 use lib.ListN.{get_elem?}
-use prog.Atomic.{either}
-use native.Mathlib.Nat.{add-mod_right}
-use native.Mathlib.Decide.{dec_lt}
-use Rattle.atomic_table.specs.Table.{State, Me, step, Allows, keeps, takes, gives, rest}
-use Rattle.atomic_table.proofs.Lists.{at_set, set_else, set_here, set_again, at_last}
-use Rattle.tap_frame.specs.Frame.{FrameValue}
+use Rattle.atomic_table.specs.Table.{step, Allows, keeps}
 use Rattle.tap_ring.specs.declared.rule.Moment.{Moment}
-use Rattle.tap_ring.specs.declared.rule.Claim.{Claim}
 use Rattle.tap_ring.specs.declared.rule.View.{View}
 use Rattle.tap_ring.specs.declared.rule.Plan.{Plan}
-use Rattle.tap_ring.specs.GateWord.{bit, gate_word}
-use Rattle.tap_ring.specs.Moments.{Fits, IsLater, IsPast, HasRoom, gate_of, capacity_at}
-use Rattle.tap_ring.specs.Standing.{RingState, Placing, Standing, slots_of, slot_at, word_at, home_at, IsEntered, IsReady, IsClaimed, IsInHand, IsPlace, EachClaim, KnowsClaims, KnowsFront, KnowsGate, Knows, Ring, times, total, within}
-use Rattle.tap_ring.specs.Steps.{Seated, RingStep, IsNew, claim, with_claim, seen_gate, Shuts, Reopens, Stores, Resizes, IsKept, seen_gate, shut_at, reopened_at, resized_at}
-use Rattle.tap_ring.proofs.Kit.{off, on, some_not_none, some_is, before_end, set_there, parts_equal, GoesOn, past_stays, past_later, goes_same, entered_longer, entered_once, entered_below, each_append, each_map, total_set, times-append, within_more, slots_apart}
-use Rattle.tap_ring.proofs.Stays.{Apart, Still, seats_set, place_stays, entered_in, word_same, home_same, frames_front}
-use Rattle.tap_ring.proofs.Loads.{past_now, new_now, still_set, hand_set, looked, gate_knows}
-use Rattle.tap_ring.proofs.Kit.{take_next}
-use Rattle.tap_ring.proofs.Loads.{apart_same, loaded}
+use Rattle.tap_ring.specs.GateWord.{gate_word}
+use Rattle.tap_ring.specs.Moments.{Fits, gate_of, capacity_at}
+use Rattle.tap_ring.specs.Standing.{RingState, Standing, slots_of, slot_at, word_at, Knows, Ring, times}
+use Rattle.tap_ring.specs.Steps.{Seated, seen_gate, Shuts, Reopens, Stores, Resizes, IsKept, seen_gate, shut_at, reopened_at, resized_at}
+use Rattle.tap_ring.proofs.Kit.{off, on, some_not_none, some_is, GoesOn, past_stays, total_set}
+use Rattle.tap_ring.proofs.Stays.{Apart, seats_set, place_stays}
+use Rattle.tap_ring.proofs.Loads.{new_now, still_set, hand_set}
 use Rattle.tap_ring.proofs.Claims.{caps_apart, place_words_apart}
-use Rattle.tap_ring.specs.Standing.{frames_of}
-use Rattle.atomic_table.proofs.Lists.{at_map}
 
 module _ (plan : Plan) where
   -- ---- the gate word changes

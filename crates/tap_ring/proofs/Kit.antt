@@ -1,15 +1,14 @@
 -- Lists read by number, gate words, and sums over views.
-use Rattle.std.proofs.Common.{◌≡◌, ◌≢◌, ◌⊎◌, ℕ, zero, suc, ◌+◌, ◌-◌, ◌*◌, ◌%◌, ◌/◌, ◌^◌, ◌≤◌, ◌<◌, ◌==◌, cond, eqb, ltb, List, [], ◌∷◌, ◌++◌, map, take, length, set, get_or, Some, None, Option, Bool, true, false, true≢false, refl, sym, ap, ◌∙◌, subst, ⊎_elim, inl, inr, le_trans, le_refl, arith, length-append, length-set}
-use Rattle.std.specs.Prelude.{slice_index, slice_set}
+use Rattle.std.proofs.Common.{◌≡◌, ◌≢◌, ◌⊎◌, ℕ, zero, suc, ◌+◌, ◌%◌, ◌/◌, ◌^◌, ◌≤◌, ◌<◌, ◌==◌, eqb, ltb, List, [], ◌∷◌, ◌++◌, take, length, set, Some, None, Bool, true, false, true≢false, refl, sym, ap, ◌∙◌, ⊎_elim, inl, inr, le_trans, le_refl, arith}
 use Rattle.std.proofs.lemmas.Bool.Decides.{eqb_tells}
 use Rattle.std.proofs.lemmas.Bool.{ltb-true, ltb-false, lt-ltb, le-ltb}
-use mathlib.Core.Option.{none, some, some-ne-none, some-injective}
+use mathlib.Core.Option.{some, some-ne-none, some-injective}
 use lib.ListN.{get_elem?}
-use Rattle.atomic_table.proofs.Lists.{at_set, at_longer, set_else, one_turn}
+use Rattle.atomic_table.proofs.Lists.{at_longer, one_turn}
 use Rattle.tap_ring.specs.declared.rule.Moment.{Moment}
 use Rattle.tap_ring.specs.declared.rule.Claim.{Claim}
 use Rattle.tap_ring.specs.declared.rule.View.{View}
-use Rattle.tap_ring.specs.GateWord.{bit, gate_word, GateLaws}
+use Rattle.tap_ring.specs.GateWord.{gate_word, GateLaws}
 use Rattle.tap_ring.specs.Moments.{Fits, IsLater, IsPast, gate_of, capacity_at}
 use Rattle.tap_ring.specs.Standing.{Placing, EachClaim, IsEntered, times, total, within}
 

@@ -2,7 +2,10 @@ pub mod Kit
 pub mod Stays
 pub mod Loads
 pub mod Claims
+pub mod Putting
 pub mod Fronts
+pub mod Lifting
+pub mod Freeing
 pub mod Gates
 pub mod Tokens
 pub mod Causes

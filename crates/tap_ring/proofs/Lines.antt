@@ -1,15 +1,15 @@
 -- Lists read by number, where slots are turned into a line of frames.
-use Rattle.std.proofs.Common.{◌≡◌, ◌≢◌, ◌⊎◌, ℕ, zero, suc, ◌+◌, ◌-◌, ◌%◌, ◌≤◌, ◌<◌, ltb, List, [], ◌∷◌, ◌++◌, map, take, drop, length, Some, None, Option, Bool, true, false, refl, sym, ap, ◌∙◌, subst, arith, length-drop, mod-eq_of_lt}
+use Rattle.std.proofs.Common.{◌≡◌, ◌≢◌, ℕ, zero, suc, ◌+◌, ◌-◌, ◌%◌, ◌≤◌, ◌<◌, ltb, List, [], ◌∷◌, ◌++◌, map, take, drop, length, Some, None, Option, Bool, true, false, refl, sym, ap, ◌∙◌, arith, length-drop, mod-eq_of_lt}
 use Rattle.std.specs.Prelude.{slice_get, slice_index, slice_index_or, slice_set}
 use Rattle.std.proofs.lemmas.Bool.{ltb-true, ltb-false}
-use mathlib.Core.Option.{none, some, some-ne-none, some-injective}
+use mathlib.Core.Option.{some, some-ne-none, some-injective}
 use lib.ListN.{get_elem?}
 use native.Mathlib.Nat.{add-mod_left}
 use Rattle.tap_frame.specs.Frame.{FrameValue}
 use Rattle.tap_ring.specs.Leaving.{present, slots_from}
 use Rattle.atomic_table.specs.Seated.{TableId}
 use Rattle.tap_ring.specs.Calls.{Token, AllOfRing}
-use Rattle.tap_ring.proofs.Kit.{some_not_none, some_is, before_end, take_next}
+use Rattle.tap_ring.proofs.Kit.{take_next}
 
 module _ {A : Type 0} where
   pub get_left : (xs ys : List A) (j : ℕ) → j < length xs → get_elem? (xs ++ ys) j ≡ get_elem? xs j

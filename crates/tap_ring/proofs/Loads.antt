@@ -1,20 +1,17 @@
 -- The steps that change no word and no slot: each keeps the rule, and tells what the table of steps says.
-use Rattle.std.proofs.Common.{◌≡◌, ◌≢◌, ◌⊎◌, ℕ, zero, suc, ◌+◌, ◌%◌, ◌≤◌, ◌<◌, ◌==◌, eqb, List, [], ◌∷◌, ◌++◌, length, set, get_or, Some, None, Option, Bool, true, false, refl, sym, ap, ◌∙◌, subst, ⊎_elim, inl, inr, le_refl, arith, append-nil}
-use Rattle.std.specs.Prelude.{slice_index, slice_set, MatchBool}
+use Rattle.std.proofs.Common.{◌≡◌, ◌≢◌, ℕ, ◌+◌, eqb, List, [], set, true, false, refl, sym, ap, ◌∙◌, subst, ⊎_elim, le_refl, arith, append-nil, ◌<◌}
+use Rattle.std.specs.Prelude.{slice_index, slice_set}
 use Rattle.std.proofs.lemmas.List.{set-get_or}
 use Rattle.std.proofs.lemmas.Bool.Decides.{eqb_tells}
 use mathlib.Core.Option.{none, some, some-injective}
 use lib.ListN.{get_elem?}
-use Rattle.atomic_table.specs.Table.{State, Me, step, Allows, keeps}
-use Rattle.atomic_table.proofs.Lists.{at_set, set_else}
-use Rattle.tap_frame.specs.Frame.{FrameValue}
-use Rattle.tap_ring.specs.declared.rule.Moment.{Moment}
-use Rattle.tap_ring.specs.declared.rule.Claim.{Claim}
+use Rattle.atomic_table.specs.Table.{step, Allows, keeps}
+use Rattle.atomic_table.proofs.Lists.{set_else}
 use Rattle.tap_ring.specs.declared.rule.View.{View}
 use Rattle.tap_ring.specs.declared.rule.Plan.{Plan}
-use Rattle.tap_ring.specs.Moments.{Fits, IsLater, IsPast, gate_of, capacity_at}
-use Rattle.tap_ring.specs.Standing.{RingState, Placing, Standing, slots_of, slot_at, word_at, home_at, IsEntered, IsReady, IsClaimed, IsInHand, IsPlace, EachClaim, KnowsClaims, KnowsFront, KnowsGate, Knows, Ring, times, total}
-use Rattle.tap_ring.specs.Steps.{Seated, RingStep, IsNew, seen_gate, seen_capacity, seen_freed, seen_front, LoadsGate, LoadsCapacity, LoadsFreed}
+use Rattle.tap_ring.specs.Moments.{IsPast}
+use Rattle.tap_ring.specs.Standing.{RingState, Placing, Standing, IsEntered, IsInHand, EachClaim, Knows, Ring, times}
+use Rattle.tap_ring.specs.Steps.{Seated, IsNew, seen_gate, seen_capacity, seen_freed, LoadsGate, LoadsCapacity, LoadsFreed}
 use Rattle.tap_ring.proofs.Kit.{set_there, goes_same, past_later, entered_below, each_map, total_set}
 use Rattle.tap_ring.proofs.Stays.{Apart, Still, seats_set, place_stays}
 

@@ -1,19 +1,16 @@
 -- What a step leaves as it was: other seats' knowledge, and places that it doesn't touch.
-use Rattle.std.proofs.Common.{◌≡◌, ◌≢◌, ◌⊎◌, ℕ, zero, suc, ◌+◌, ◌%◌, ◌^◌, ◌≤◌, ◌<◌, List, [], ◌∷◌, ◌++◌, map, take, length, set, get_or, Some, None, Option, Bool, true, false, refl, sym, ap, ◌∙◌, subst, ⊎_elim, inl, inr, le_trans, le_refl, arith, length-append, length-set}
-use Rattle.std.specs.Prelude.{slice_index, slice_set}
-use Rattle.std.proofs.lemmas.List.{append-nil, length-map, map-append}
-use mathlib.Core.Option.{none, some, some-ne-none, some-injective}
+use Rattle.std.proofs.Common.{◌≡◌, ◌≢◌, ◌⊎◌, ℕ, ◌+◌, ◌%◌, ◌^◌, ◌≤◌, ◌<◌, List, ◌++◌, take, length, set, Some, true, sym, ap, ◌∙◌, subst, ⊎_elim, inl, inr, arith}
+use Rattle.std.specs.Prelude.{slice_index}
+use Rattle.std.proofs.lemmas.List.{length-map, map-append}
+use mathlib.Core.Option.{some}
 use lib.ListN.{get_elem?}
-use Rattle.atomic_table.specs.Table.{State}
-use Rattle.atomic_table.proofs.Lists.{at_set, set_else}
-use Rattle.tap_frame.specs.Frame.{FrameValue}
-use Rattle.tap_ring.specs.declared.rule.Moment.{Moment}
+use Rattle.atomic_table.proofs.Lists.{at_set}
 use Rattle.tap_ring.specs.declared.rule.Claim.{Claim}
 use Rattle.tap_ring.specs.declared.rule.View.{View}
 use Rattle.tap_ring.specs.declared.rule.Plan.{Plan}
-use Rattle.tap_ring.specs.Moments.{Fits, IsLater, IsPast, gate_of, capacity_at}
-use Rattle.tap_ring.specs.Standing.{RingState, Placing, Standing, slots_of, slot_at, word_at, home_at, IsEntered, IsReady, IsClaimed, IsInHand, IsPlace, EachClaim, frames_of, KnowsClaims, KnowsFront, KnowsGate, Knows, Ring}
-use Rattle.tap_ring.proofs.Kit.{off, on, some_not_none, some_is, before_end, set_there, take_more, GoesOn, past_stays, entered_longer, entered_below, each_map}
+use Rattle.tap_ring.specs.Moments.{capacity_at}
+use Rattle.tap_ring.specs.Standing.{RingState, Placing, Standing, slots_of, slot_at, word_at, home_at, IsEntered, IsReady, IsClaimed, IsInHand, IsPlace, frames_of, KnowsClaims, KnowsFront, KnowsGate, Knows, Ring}
+use Rattle.tap_ring.proofs.Kit.{take_more, GoesOn, past_stays, entered_longer, each_map}
 
 -- what a step of the seat `by` must leave as it was for all others
 pub record Apart (first : ℕ) (s s' : RingState) (h h' : Standing) (by : ℕ) : Type 0 where

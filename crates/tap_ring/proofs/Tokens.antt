@@ -1,35 +1,21 @@
 -- How a ring begins, and how its tokens come from one seat and go into one again.
-use Rattle.std.proofs.Common.{◌≡◌, ◌≢◌, ◌⊎◌, ℕ, zero, suc, ◌+◌, ◌*◌, ◌^◌, ◌%◌, ◌≤◌, ◌<◌, ◌==◌, eqb, List, [], ◌∷◌, ◌++◌, take, replicate, map, length, set, get_or, Some, None, Option, Bool, true, false, refl, sym, ap, ◌∙◌, subst, ⊎_elim, inl, inr, le_refl, le_trans, arith, append-nil, le_antisymm, ltb, ltb-true, ltb-false, length-append, length-set, mod-lt, le_of_eq, get_or-set_same, get_or-set_other, suc-ne-zero}
-use Rattle.std.specs.Prelude.{slice_index, slice_set, MatchBool}
-use Rattle.std.proofs.lemmas.List.{set-get_or, length-map, length-replicate}
+use Rattle.std.proofs.Common.{◌≡◌, ◌≢◌, ℕ, zero, suc, ◌+◌, ◌^◌, ◌%◌, ◌≤◌, ◌<◌, eqb, List, [], ◌∷◌, ◌++◌, replicate, map, length, set, None, Option, Bool, true, false, refl, sym, ap, ◌∙◌, subst, ⊎_elim, le_refl, arith, append-nil, ltb, length-set, mod-lt, get_or-set_same, get_or-set_other}
+use Rattle.std.specs.Prelude.{slice_index}
+use Rattle.std.proofs.lemmas.List.{length-map, length-replicate}
 use Rattle.std.proofs.lemmas.Bool.Decides.{eqb_tells}
-use mathlib.Core.Path.{Path}
-use mathlib.Core.Option.{none, some, some-injective, some-ne-none}
-use mathlib.Core.Option as maybe
+use mathlib.Core.Option.{some, some-injective, some-ne-none}
 use lib.ListN.{get_elem?}
-use prog.Atomic.{either}
-use native.Mathlib.Nat.{add-mod_right}
-use native.Mathlib.Decide.{dec_lt}
-use Rattle.atomic_table.specs.Table.{State, Me, Splits, Joins, opening}
-use Rattle.atomic_table.proofs.Lists.{at_longer, at_set, set_else, set_here, set_again, at_last}
+use Rattle.atomic_table.specs.Table.{Splits, Joins, opening}
+use Rattle.atomic_table.proofs.Lists.{at_longer, at_set, set_else}
 use Rattle.tap_frame.specs.Frame.{FrameValue}
-use Rattle.tap_ring.specs.declared.rule.Moment.{Moment}
-use Rattle.tap_ring.specs.declared.rule.Claim.{Claim}
 use Rattle.tap_ring.specs.declared.rule.View.{View}
 use Rattle.tap_ring.specs.declared.rule.Plan.{Plan}
-use Rattle.tap_ring.specs.GateWord.{bit, gate_word}
-use Rattle.tap_ring.specs.Moments.{Fits, IsLater, IsPast, HasRoom, gate_of, capacity_at}
-use Rattle.tap_ring.specs.Standing.{RingState, Placing, Standing, slots_of, slot_at, word_at, home_at, IsEntered, IsReady, IsClaimed, IsInHand, IsPlace, EachClaim, KnowsClaims, KnowsFront, KnowsGate, Knows, Ring, times, total, within}
-use Rattle.tap_ring.specs.Steps.{Seated, RingStep, IsNew, claim, with_claim, seen_gate, without_producer, one_producer, without_consumer, the_consumer, with_producer, with_keeper, spent_view}
-use Rattle.tap_ring.proofs.Kit.{off, on, some_not_none, some_is, before_end, set_there, parts_equal, GoesOn, past_stays, past_later, goes_same, entered_longer, entered_once, entered_below, each_append, each_map, total_set, times-append, within_more, slots_apart}
-use Rattle.tap_ring.proofs.Stays.{Apart, Still, seats_set, knows_apart, place_stays, entered_in, word_same, home_same, frames_front}
-use Rattle.tap_ring.proofs.Loads.{past_now, new_now, still_set, hand_set, looked, gate_knows}
-use Rattle.tap_ring.proofs.Kit.{take_next}
-use Rattle.tap_ring.proofs.Loads.{apart_same, loaded}
-use Rattle.tap_ring.proofs.Claims.{caps_apart, place_words_apart}
-use Rattle.tap_ring.specs.Standing.{frames_of}
-use Rattle.atomic_table.proofs.Lists.{at_map}
-use Rattle.tap_ring.specs.Standing.{maker, new_producers, opening_moment, first_words}
+use Rattle.tap_ring.specs.Moments.{IsPast}
+use Rattle.tap_ring.specs.Standing.{RingState, Placing, Standing, slots_of, slot_at, word_at, home_at, IsEntered, EachClaim, KnowsClaims, Knows, Ring, times, within}
+use Rattle.tap_ring.specs.Steps.{without_producer, one_producer, without_consumer, the_consumer, with_producer, with_keeper, spent_view}
+use Rattle.tap_ring.proofs.Kit.{off, on, some_not_none, goes_same, each_append, total_set, times-append}
+use Rattle.tap_ring.proofs.Stays.{Apart, Still, knows_apart, place_stays}
+use Rattle.tap_ring.specs.Standing.{maker, opening_moment, first_words}
 use Rattle.tap_ring.proofs.Kit.{at_snoc_where, total_snoc}
 
 module _ (plan : Plan) where

@@ -73,7 +73,7 @@ pub record SameHands (v w : View) : Type 0 where
 
 -- ---- to put a frame
 
--- the gate that this call loaded first was open and not spent, and the capacity and the freed count were loaded after it
+-- the gate that this call loaded first was open and not spent; the capacity and the freed count were loaded after it
 pub record Asked (epoch : ℕ) (v w : View) : Type 0 where
   pub open_then : IsOpen epoch w.asked
   pub unspent : ¬ IsSpent w.asked
@@ -211,7 +211,8 @@ pub record IsReopened (epoch : ℕ) (v w : View) : Type 0 where
 
 -- why the gate stays shut: the two counts that the tokens keep differ; or else there is no further epoch
 abbrev pub StaysShut : View → ℕ → Reopen → Type 0
-StaysShut v freed (NotDrained claimed freed_then) = (claimed ≡ v.gate.claimed) × (freed_then ≡ freed) × (claimed ≢ freed_then)
+StaysShut v freed (NotDrained claimed freed_then) =
+    (claimed ≡ v.gate.claimed) × (freed_then ≡ freed) × (claimed ≢ freed_then)
 StaysShut v freed EpochsSpent = (v.gate.claimed ≡ freed) × (v.gate.epoch ≡ 65535)
 
 -- the next number of resizes has this capacity; the claim count is the answer, and of a shut gate it stays
@@ -247,9 +248,10 @@ abbrev pub AllStand : ℕ → List FrameValue → List Token → Type 0
 AllStand first line [] = Unit {0}
 AllStand first line (t ∷ ts) = EachClaim (StandsIn first line) t.view.mine × AllStand first line ts
 
--- What was lifted and what is left are the frames of all places, in order; each place is one producer's claim, once, with
--- the frame that it put. No place was given out since the keeper shut the gate, if it is shut.
-pub record IsEnd (first : ℕ) (all : List Token) (c k : View) (claimed freed lifted : ℕ) (left : List FrameValue) : Type 0 where
+-- What was lifted and what is left are the frames of all places, in order; each place is one producer's claim, once,
+-- with the frame that it put. No place was given out since the keeper shut the gate, if it is shut.
+pub record IsEnd (first : ℕ) (all : List Token) (c k : View) (claimed freed lifted : ℕ) (left : List FrameValue)
+    : Type 0 where
   pub lifted_is : lifted ≡ first + length c.lifted
   pub freed_is : freed ≡ c.freed
   pub claimed_is : claimed ≡ first + length (c.lifted ++ left)

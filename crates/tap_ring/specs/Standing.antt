@@ -1,11 +1,11 @@
 -- This project's own: the rule of a ring, which holds between any two steps.
 -- Word 0 is the gate, word 1 the freed count, words 2 to 129 the capacity of each number of resizes, and from word
 -- 130 on stands one word a place. The place p has the slot p % slots, and its word is p + 1 once its frame was put.
-use Rattle.std.specs.Prelude.{◌≡◌, ℕ, ◌+◌, ◌%◌, ◌^◌, ◌<◌, ◌≤◌, ◌==◌, ◌⊎◌, nat_lt, if◌then◌else◌, Bool, true, false, List, [], ◌∷◌, map, take, length, replicate, slice_index, slice_set, Option, Some, None}
+use Rattle.std.specs.Prelude.{◌≡◌, ℕ, ◌+◌, ◌%◌, ◌^◌, ◌<◌, ◌≤◌, ◌==◌, ◌⊎◌, nat_lt, if◌then◌else◌, true, false, List, [], ◌∷◌, map, take, length, replicate, slice_index, slice_set, Option, Some, None}
 use mathlib.Core.Option.{some, none}
 use mathlib.Core.Option as maybe
 use lib.ListN.{get_elem?}
-use Rattle.atomic_table.specs.Table.{State, Me}
+use Rattle.atomic_table.specs.Table.{State}
 use Rattle.tap_frame.specs.Frame.{FrameValue}
 use Rattle.tap_ring.specs.declared.rule.Moment.{Moment}
 use Rattle.tap_ring.specs.declared.rule.Claim.{Claim}
@@ -96,7 +96,8 @@ module _ (plan : Plan) (s : RingState) (h : Standing) (j : ℕ) (v : View) where
     pub mine : EachClaim (λ c. (x : Placing) × IsEntered plan.first h.log c.place x × (x.claim ≡ c)) v.mine
     pub idle : v.parts ≡ 0 → (v.mine ≡ []) × (v.putting ≡ None)
     pub putting : (c : Claim) → v.putting ≡ Some c
-        → IsEntered plan.first h.log c.place record { by = j; claim = c } × (h.lifted ≤ c.place) × (word_at s c.place ≤ c.place)
+        → IsEntered plan.first h.log c.place record { by = j; claim = c }
+        × (h.lifted ≤ c.place) × (word_at s c.place ≤ c.place)
 
   -- the consumer has lifted the first frames, and alone lifts and frees
   pub record KnowsFront : Type 0 where

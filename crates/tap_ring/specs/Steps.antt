@@ -1,6 +1,6 @@
 -- This project's own: what each kind of step tells the seat that takes it.
-use Rattle.std.specs.Prelude.{◌≡◌, ◌≢◌, ℕ, ◌+◌, ◌-◌, ◌%◌, ◌^◌, ◌<◌, ◌≤◌, ◌==◌, Bool, true, false, List, [], ◌∷◌, ◌++◌, MatchBool, Option, Some, None}
-use mathlib.Core.Option.{some, none}
+use Rattle.std.specs.Prelude.{◌≡◌, ◌≢◌, ℕ, ◌+◌, ◌-◌, ◌%◌, ◌^◌, ◌<◌, ◌==◌, true, false, [], ◌∷◌, ◌++◌, MatchBool, Option, Some, None}
+use mathlib.Core.Option.{some}
 use Rattle.atomic_table.specs.Table.{Me, Step, rest}
 use Rattle.tap_frame.specs.Frame.{FrameValue}
 use Rattle.tap_ring.specs.declared.rule.Moment.{Moment}
@@ -92,7 +92,8 @@ with_lifted frame v = record v { next = v.next + 1; lifted = v.lifted ++ frame �
 -- the load by which the slot goes back, empty: the frame is lifted
 abbrev pub Lifts : RingStep → Seated → ℕ → Seated → Type 0
 Lifts st v found w =
-    (frame : FrameValue) × (v.0.in_hand ≡ Some frame) × (v.0.next + 1 < 2 ^ 40) × (w.0 ≡ with_lifted frame v.0) × (w.1 ≡ rest v.1)
+    (frame : FrameValue) × (v.0.in_hand ≡ Some frame) × (v.0.next + 1 < 2 ^ 40)
+    × (w.0 ≡ with_lifted frame v.0) × (w.1 ≡ rest v.1)
 
 -- kind 6, add one to freed
 abbrev pub Frees : RingStep → Seated → ℕ → Seated → Type 0

@@ -1,4 +1,17 @@
 //! A ring of frames that many senders fill without a lock.
+//!
+//! [`TapRing::new`] makes a ring and its tokens. Producers put frames ([`TapRing::try_put`]), one
+//! consumer takes them in the order of their places ([`TapRing::lift`], [`TapRing::free`],
+//! [`TapRing::take`]), and one keeper shuts, reopens and resizes ([`TapRing::shut`],
+//! [`TapRing::reopen`], [`TapRing::resize`]). No call but `new` takes memory, and none waits.
+//! [`TapRing::finish`] takes all tokens back and gives the frames that are left.
+//!
+//! To a contract a token is what it knows, a [`View`]: its claims or the frames that it lifted, and
+//! what the ring was, a [`Moment`], at the steps by which it saw it.
+//!
+//! `specs/GateWord.antt` has the gate word, `specs/Standing.antt` the rule that holds between any two
+//! steps, `specs/Steps.antt` what each kind of step tells, and `specs/Calls.antt` what each call
+//! promises.
 #![tactic(auto)]
 
 mod consumer;

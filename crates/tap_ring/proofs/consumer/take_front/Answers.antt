@@ -1,4 +1,4 @@
-use Rattle.std.proofs.Common.{rules, arith, ◌≡◌, ◌+◌, ◌%◌, ℕ, ◌∷◌, eqb, true, sym, ap, ap₂, ◌∙◌, eq-eqb, Some}
+use Rattle.std.proofs.Common.{◌≡◌, ◌+◌, ◌%◌, ℕ, ◌∷◌, eqb, true, sym, ap, ap₂, ◌∙◌, eq-eqb, Some}
 use Rattle.atomic_table.specs.Table.{rest}
 use Rattle.tap_ring.proofs.consumer.take_front.Goals as goal
 

@@ -1,6 +1,6 @@
-use Rattle.std.proofs.Common.{arith, rules, ◌≡◌, ◌+◌, ◌-◌, ◌++◌, [], ℕ, List, take, drop, length, sym, ap, ◌∙◌, subst}
-use Rattle.std.specs.Mem.Slots.{slots_items, slots_len, slots_counts}
-use Rattle.tap_ring.specs.Leaving.{present, slots_from}
+use Rattle.std.proofs.Common.{arith, ◌≡◌, ◌-◌, ◌++◌, take, drop, length, sym, ap, ◌∙◌}
+use Rattle.std.specs.Mem.Slots.{slots_items, slots_counts}
+use Rattle.tap_ring.specs.Leaving.{present}
 use Rattle.tap_ring.proofs.Lines.{present_parts, whole_stretch}
 use Rattle.tap_ring.proofs.ending.empty_from.Goals as goal
 

@@ -1,6 +1,6 @@
-use Rattle.std.proofs.Common.{arith, ◌≡◌, ◌≢◌, ◌⊎◌, ◌+◌, ◌-◌, ◌<◌, ◌≤◌, ◌++◌, ◌∷◌, [], ℕ, Bool, true, false, eqb, sym, ap, ◌∙◌, ⊎_elim, append_assoc, take, drop, slice_index_or}
+use Rattle.std.proofs.Common.{arith, ◌≡◌, ◌≢◌, ◌-◌, ◌++◌, ◌∷◌, [], true, false, eqb, sym, ap, ◌∙◌, ⊎_elim, append_assoc, take, drop, slice_index_or}
 use Rattle.std.proofs.lemmas.Bool.Decides.{eqb_tells}
-use Rattle.std.specs.Mem.Slots.{slots_items, slots_filled, slots_len}
+use Rattle.std.specs.Mem.Slots.{slots_items, slots_filled}
 use lib.ListN.{get_elem?}
 use Rattle.tap_ring.specs.Leaving.{present}
 use Rattle.tap_ring.proofs.Lines.{present_more, set_false_here, set_false_else}

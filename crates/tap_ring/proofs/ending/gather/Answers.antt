@@ -1,7 +1,6 @@
-use Rattle.std.proofs.Common.{arith, ◌≡◌, ◌+◌, ◌++◌, ◌∷◌, [], ℕ, length, length-append, sym, ap, ◌∙◌, subst}
-use Rattle.tap_ring.specs.Calls.{Token, AllOfRing}
-use Rattle.tap_ring.specs.Steps.{Seated, with_producer}
-use Rattle.tap_ring.specs.declared.rule.View.{View}
+use Rattle.std.proofs.Common.{arith, ◌≡◌, ◌++◌, ◌∷◌, [], length, length-append, sym, ap, ◌∙◌, subst}
+use Rattle.tap_ring.specs.Calls.{AllOfRing}
+use Rattle.tap_ring.specs.Steps.{Seated}
 use Rattle.tap_ring.specs.Leaving.{gathered}
 use Rattle.tap_ring.proofs.Lines.{ring_parts}
 use Rattle.tap_ring.proofs.Ends.{gathered_snoc}

@@ -1,4 +1,4 @@
-use Rattle.std.proofs.Common.{arith, ◌≡◌, ◌-◌, ℕ, ap, ◌∙◌}
+use Rattle.std.proofs.Common.{arith, ap, ◌∙◌}
 use Rattle.tap_ring.specs.Steps.{Seated}
 use Rattle.tap_ring.proofs.Tokens.{splits_producer}
 use Rattle.tap_ring.proofs.making.deal.Goals as goal

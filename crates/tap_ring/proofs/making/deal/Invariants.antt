@@ -1,4 +1,4 @@
-use Rattle.std.proofs.Common.{◌≡◌, ◌+◌, ◌-◌, ◌≤◌, [], length, replicate, vec_capacity}
+use Rattle.std.proofs.Common.{◌≡◌, ◌-◌, ◌≤◌, [], replicate, vec_capacity}
 use Rattle.tap_ring.specs.Standing.{maker_of, new_producers}
 use Rattle.tap_ring.specs.Calls.{token}
 use Rattle.tap_ring.proofs.making.deal.Given as goal

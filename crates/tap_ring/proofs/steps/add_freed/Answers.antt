@@ -1,5 +1,5 @@
-use Rattle.std.proofs.Common.{arith, ◌≡◌, ◌+◌, ℕ, refl, sym, ap, ◌∙◌}
-use Rattle.tap_ring.proofs.Fronts.{frees}
+use Rattle.std.proofs.Common.{arith}
+use Rattle.tap_ring.proofs.Freeing.{frees}
 use Rattle.tap_ring.proofs.steps.add_freed.Goals as goal
 
 pub fetch_add-requires : goal.fetch_add-requires

@@ -1,4 +1,4 @@
-use Rattle.std.proofs.Common.{arith, ◌≡◌, ◌+◌, ℕ, refl, sym, ap, ◌∙◌}
+use Rattle.std.proofs.Common.{arith}
 use Rattle.tap_ring.proofs.Gates.{resizes_by}
 use Rattle.tap_ring.proofs.steps.add_resize.Goals as goal
 

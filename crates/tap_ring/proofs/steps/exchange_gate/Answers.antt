@@ -1,6 +1,6 @@
-use Rattle.std.proofs.Common.{arith, ◌==◌, ◌≡◌, ◌+◌, ℕ, refl, sym, ap, ◌∙◌}
+use Rattle.std.proofs.Common.{arith, ◌==◌, ◌+◌, refl, sym}
 use Rattle.tap_ring.proofs.Claims.{exchanges}
-use Rattle.std.proofs.Common.{subst, Some, Option}
+use Rattle.std.proofs.Common.{subst, Option}
 use mathlib.Core.Option.{some}
 use Rattle.atomic_table.specs.Table.{step, Allows}
 use prog.Atomic.{either}

@@ -1,5 +1,5 @@
-use Rattle.std.proofs.Common.{arith, ◌≡◌, ◌+◌, ℕ, refl, sym, ap, ◌∙◌}
-use Rattle.tap_ring.proofs.Fronts.{lifts}
+use Rattle.std.proofs.Common.{arith}
+use Rattle.tap_ring.proofs.Lifting.{lifts}
 use Rattle.tap_ring.proofs.steps.give_front.Goals as goal
 
 pub load-requires : goal.load-requires

@@ -1,4 +1,4 @@
-use Rattle.std.proofs.Common.{arith, ◌≡◌, ◌+◌, ℕ, refl, sym, ap, ◌∙◌}
+use Rattle.std.proofs.Common.{arith}
 use Rattle.tap_ring.proofs.Loads.{loads_capacity}
 use Rattle.tap_ring.proofs.steps.load_capacity.Goals as goal
 

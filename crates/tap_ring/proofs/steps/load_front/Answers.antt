@@ -1,4 +1,4 @@
-use Rattle.std.proofs.Common.{arith, ◌≡◌, ◌+◌, ℕ, refl, sym, ap, ◌∙◌}
+use Rattle.std.proofs.Common.{arith, ◌+◌, ℕ, ap}
 use Rattle.tap_ring.proofs.Fronts.{loads_front}
 use Rattle.tap_ring.proofs.steps.load_front.Goals as goal
 

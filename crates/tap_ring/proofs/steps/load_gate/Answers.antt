@@ -1,4 +1,4 @@
-use Rattle.std.proofs.Common.{arith, ◌≡◌, ◌+◌, ℕ, refl, sym, ap, ◌∙◌}
+use Rattle.std.proofs.Common.{arith}
 use Rattle.tap_ring.proofs.Loads.{loads_gate}
 use Rattle.tap_ring.proofs.steps.load_gate.Goals as goal
 

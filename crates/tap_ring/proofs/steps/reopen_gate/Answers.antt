@@ -1,4 +1,4 @@
-use Rattle.std.proofs.Common.{arith, ◌≡◌, ◌+◌, ℕ, refl, sym, ap, ◌∙◌}
+use Rattle.std.proofs.Common.{arith}
 use Rattle.tap_ring.proofs.Gates.{reopens}
 use Rattle.tap_ring.proofs.steps.reopen_gate.Goals as goal
 

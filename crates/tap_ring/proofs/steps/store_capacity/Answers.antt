@@ -1,4 +1,4 @@
-use Rattle.std.proofs.Common.{arith, rules, ◌≡◌, ◌+◌, ℕ, refl, sym, ap, ◌∙◌}
+use Rattle.std.proofs.Common.{arith, rules, ◌≡◌}
 use Rattle.tap_ring.proofs.Gates.{stores}
 use Rattle.tap_ring.proofs.steps.store_capacity.Goals as goal
 

@@ -1,5 +1,5 @@
-use Rattle.std.proofs.Common.{arith, ◌≡◌, ◌+◌, ℕ, refl, sym, ap, ◌∙◌}
-use Rattle.tap_ring.proofs.Claims.{puts}
+use Rattle.std.proofs.Common.{arith, refl}
+use Rattle.tap_ring.proofs.Putting.{puts}
 use Rattle.tap_ring.proofs.steps.store_number.Goals as goal
 
 pub store-requires : goal.store-requires

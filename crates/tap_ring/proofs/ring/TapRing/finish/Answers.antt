@@ -1,5 +1,5 @@
-use Rattle.std.proofs.Common.{arith, [], ◌≡◌, ◌+◌, ◌%◌, ℕ, List, length, sym, ap, ◌∙◌, subst}
-use Rattle.std.specs.Mem.Slots.{slots_items, slots_len, slots_counts}
+use Rattle.std.proofs.Common.{arith, [], ◌≡◌, ◌%◌, ℕ, List, length, sym, ap, ◌∙◌, subst}
+use Rattle.std.specs.Mem.Slots.{slots_items, slots_counts}
 use Rattle.tap_frame.specs.Frame.{FrameValue}
 use Rattle.tap_ring.specs.declared.rule.View.{View}
 use Rattle.tap_ring.specs.GateWord.{claimed_of}
