@@ -1,5 +1,5 @@
 -- From what the steps of a put told to what the call promises.
-use Rattle.std.proofs.Common.{◌≡◌, ℕ, ◌+◌, ◌^◌, ◌<◌, [], ◌∷◌, ◌++◌, refl, sym, ap, ◌∙◌, subst, arith}
+use Rattle.std.proofs.Common.{◌≡◌, ℕ, ◌+◌, ◌^◌, ◌<◌, [], ◌∷◌, ◌++◌, refl, sym, ap, ◌∙◌, subst, arith, ◌≤◌}
 use Rattle.tap_frame.specs.Frame.{FrameValue}
 use Rattle.tap_ring.specs.declared.rule.Moment.{Moment}
 use Rattle.tap_ring.specs.declared.rule.Claim.{Claim}
@@ -22,35 +22,42 @@ open_word epoch m f o =
     let l = o.2 in
     ((sym p.1 ∙ o.0, sym p.2 ∙ o.1), omega (arith, c, l))
 
-placed_at : (epoch place : ℕ) (frame : FrameValue) (v w : View) (m m3 : Moment) → IsNew v m → IsNew (seen_capacity (seen_gate m v)) m3 → IsOpen epoch m → m.claimed + 1 < 2 ^ 40
+placed_at : (epoch place : ℕ) (frame : FrameValue) (v w : View) (m m3 : Moment) → IsNew v m → IsNew (seen_capacity (seen_gate m v)) m3 → IsOpen epoch m → m.claimed + 1 < 2 ^ 40 → m.claimed < m3.freed + m.capacity
     → ClaimedThen frame place (seen_freed m3 (seen_capacity (seen_gate m v))) w → Placed epoch frame place v w
-placed_at epoch place frame v w m m3 new new3 is_open few t =
+placed_at epoch place frame v w m m3 new new3 is_open few free t =
     let m4 = t.0 in
     let same = parts_equal m4 m t.2.fits new.fits t.1 in
     let same_claimed = same.0 in
-    let at : place ≡ m4.claimed = t.5 in
-    subst (Placed epoch frame place v) (sym t.6) (record {
+    let at : place ≡ m4.claimed = t.4 in
+    subst (Placed epoch frame place v) (sym t.5) (record {
       asked = record {
         open_then = is_open;
         unspent = λ spent. omega (arith, spent, few);
         later = new.gate;
+        mine = new.mine;
         order = new3.gate;
         capacity_loads = refl;
         freed_loads = refl;
         gate_loads = omega arith;
       };
+      found = λ (full : m3.freed + m.capacity ≤ m.claimed). omega (arith, full, free);
+      same_gate = t.1;
+      order = t.2.room;
       open_then = (same.1 ∙ is_open.0, same.2 ∙ is_open.1);
       room = t.3;
       place_is = at;
       bound = omega (arith, at, same_claimed, few);
-      above = subst (λ n. EachClaim (λ c. c.place < n) v.mine) (sym at) t.4;
+      above = subst (λ n. EachClaim (λ c. c.place < n) v.mine) (sym at) t.2.mine;
       mine = ap (λ (c : Claim). v.mine ++ c ∷ []) (λ i. claim (sym at i) ((same.2 ∙ is_open.1) i) frame);
     })
 
-pub placed_then : (epoch place gate : ℕ) (frame : FrameValue) (v v1 v2 v3 w : View) (m m3 : Moment) → gate ≡ gate_of m → IsNew v m → v1 ≡ seen_gate m v → v2 ≡ seen_capacity v1 → IsNew v2 m3 → v3 ≡ seen_freed m3 v2
-    → IsOpenWord epoch gate → ClaimedThen frame place v3 w → Placed epoch frame place v w
-placed_then epoch place gate frame v v1 v2 v3 w m m3 is new one two new3 three is_open t =
+pub placed_then : (epoch place gate freed capacity : ℕ) (frame : FrameValue) (v v1 v2 v3 w : View) (m m3 : Moment) → gate ≡ gate_of m → IsNew v m → v1 ≡ seen_gate m v
+    → capacity ≡ v1.gate.capacity → v2 ≡ seen_capacity v1 → freed ≡ m3.freed → IsNew v2 m3 → v3 ≡ seen_freed m3 v2
+    → IsOpenWord epoch gate → claimed_of gate < freed + capacity → ClaimedThen frame place v3 w → Placed epoch frame place v w
+placed_then epoch place gate freed capacity frame v v1 v2 v3 w m m3 is new one cap two freed_is new3 three is_open free t =
     let o = open_word epoch m new.fits (subst (IsOpenWord epoch) is is_open) in
     let second : v2 ≡ seen_capacity (seen_gate m v) = two ∙ ap seen_capacity one in
-    placed_at epoch place frame v w m m3 new (subst (λ (x : View). IsNew x m3) second new3) o.0 o.1
+    let first : claimed_of gate ≡ m.claimed = ap claimed_of is ∙ (word_parts m new.fits).0 in
+    let named : capacity ≡ m.capacity = cap ∙ ap (λ (x : View). x.gate.capacity) one in
+    placed_at epoch place frame v w m m3 new (subst (λ (x : View). IsNew x m3) second new3) o.0 o.1 (omega (arith, first, named, freed_is, free))
     (subst (λ (x : View). ClaimedThen frame place x w) (three ∙ ap (seen_freed m3) second) t)

@@ -196,8 +196,7 @@ module _ (plan : Plan) where
 
   -- what the exchange tells where the gate was the expected one, and where it wasn't
   abbrev Hit : Seated → ℕ → Moment → FrameValue → Seated → Type 0
-  Hit v n m said w = HasRoom m × EachClaim (λ c. c.place < m.claimed) v.0.mine
-      × ((frame : FrameValue) × (Path (maybe.Option (Option FrameValue)) (some (Some said)) (some (Some frame))) × (w.0 ≡ with_claim m frame v.0))
+  Hit v n m said w = HasRoom m × ((frame : FrameValue) × (Path (maybe.Option (Option FrameValue)) (some (Some said)) (some (Some frame))) × (w.0 ≡ with_claim m frame v.0))
       × (w.1 ≡ (m.claimed % n, None) ∷ v.1)
 
   abbrev Miss : Seated → Moment → Seated → Type 0
@@ -212,11 +211,6 @@ module _ (plan : Plan) where
 
   miss_words : (ws : List ℕ) (old new : ℕ) → eqb (slice_index ws 0) old ≡ false → ws ≡ slice_set ws 0 (either (eqb (slice_index ws 0) old) new (slice_index ws 0))
   miss_words ws old new t = rw t (sym (set-get_or ws 0 0))
-
-  -- each place that a seat claimed is below the claim count
-  pub all_below : (s : RingState) (r : Ring plan s) (by : ℕ) (v : View) → Knows plan s r.h by v → EachClaim (λ c. c.place < r.h.now.claimed) v.mine
-  all_below s r by v k = each_map (λ c. (x : Placing) × IsEntered plan.first r.h.log c.place x × (x.claim ≡ c)) (λ c. c.place < r.h.now.claimed) v.mine
-      (λ c t. let b = entered_below plan.first r.h.log c.place t.0 t.1 in let l = r.long in omega (arith, b, l)) k.claims.mine
 
   -- The exchange: the gate was open and had room by the numbers that the seat saw; so it does where the gate is the same.
   pub exchanges : (n by old new : ℕ) (frame : FrameValue) (v : Seated) → v.0.spent ≡ false → v.0.putting ≡ None → v.0.parts ≢ 0
@@ -247,7 +241,7 @@ module _ (plan : Plan) where
           r.gate,
           new_now plan s r by v.0 live k,
           subst (λ (b : Bool). MatchBool b (Hit v n now frame (w, (slot_at s now.claimed, None) ∷ v.1)) (Miss v now (w, (slot_at s now.claimed, None) ∷ v.1))) (sym t.0)
-              (room, all_below s r by v.0 k, (frame, refl, refl), ap (λ m. (now.claimed % m, None) ∷ v.1) len),
+              (room, (frame, refl, refl), ap (λ m. (now.claimed % m, None) ∷ v.1) len),
         ),
       ))
       (λ (t : (eqb (slice_index s.words 0) old ≡ false) × (slice_index s.words 0 ≢ old)).

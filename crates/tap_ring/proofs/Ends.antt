@@ -8,12 +8,13 @@ use lib.ListN.{get_elem?}
 use native.Mathlib.Nat.{mod-add-mod}
 use Rattle.atomic_table.specs.Table.{Final, Seen}
 use Rattle.tap_frame.specs.Frame.{FrameValue}
+use Rattle.tap_ring.specs.declared.rule.Moment.{Moment}
 use Rattle.tap_ring.specs.declared.rule.Claim.{Claim}
 use Rattle.tap_ring.specs.declared.rule.View.{View}
 use Rattle.tap_ring.specs.declared.rule.Plan.{Plan}
 use Rattle.tap_ring.specs.GateWord.{claimed_of}
 use Rattle.tap_ring.specs.Standing.{RingState, Placing, slots_of, home_at, IsEntered, IsReady, IsClaimed, IsInHand, EachClaim, KnowsFront, Ring, frames_of, times, total, within}
-use Rattle.tap_ring.specs.Steps.{with_producer}
+use Rattle.tap_ring.specs.Steps.{with_producer, with_keeper}
 use Rattle.tap_ring.specs.Calls.{Token, StandsIn, AllStand, IsEnd, claims_to}
 use Rattle.tap_ring.specs.Leaving.{present, slots_from, gathered}
 use Rattle.tap_ring.proofs.Kit.{some_not_none, before_end, each_map, times-append}
@@ -68,6 +69,11 @@ gathered_stand first line v (t ∷ ts) e = let r = each_parts (StandsIn first li
 pub gathered_front : (v : View) (all : List Token) → ((gathered v all).takes ≡ v.takes) × ((gathered v all).next ≡ v.next) × ((gathered v all).lifted ≡ v.lifted) × ((gathered v all).in_hand ≡ v.in_hand) × ((gathered v all).freed ≡ v.freed) × ((gathered v all).putting ≡ v.putting)
 gathered_front v [] = (refl, refl, refl, refl, refl, refl)
 gathered_front v (t ∷ ts) = gathered_front v ts
+
+-- and the keeper's
+gathered_gate : (v : View) (all : List Token) → ((gathered v all).keeps ≡ v.keeps) × ((gathered v all).gate ≡ v.gate) × ((gathered v all).spent ≡ v.spent)
+gathered_gate v [] = (refl, refl, refl)
+gathered_gate v (t ∷ ts) = gathered_gate v ts
 
 pub gathered_snoc : (v : View) (all : List Token) (t : Token) → gathered v (all ++ t ∷ []) ≡ gathered (with_producer v t.view) all
 gathered_snoc v [] t = refl
@@ -187,14 +193,19 @@ module _ (plan : Plan) (s : RingState) (r : Ring plan s) (id : ℕ) (w : View) (
         (omega (arith, e, f, l), omega (arith, c, x), omega (arith, y, a), omega (arith, x, y, b), omega (arith, x, d))
 
 -- What is known once the table is closed.
-pub ended : (plan : Plan) (words : List ℕ) (slots : List (Option FrameValue)) (id n claimed : ℕ) (v w : View) (all : List Token) → Final (Seen (Ring plan) id w) words slots → length slots ≡ n
-    → w ≡ gathered v all → w.parts ≡ plan.producers → v.takes ≡ true → v.in_hand ≡ None → v.putting ≡ None → v.mine ≡ [] → claimed ≡ claimed_of (slice_index words 0)
-    → IsEnd plan.first all v claimed v.freed v.next (present (slots_from (v.freed % n) slots))
-ended plan words slots id n claimed v w all final count is parts takes_is empty idle none_mine claimed_is =
+pub ended : (plan : Plan) (words : List ℕ) (slots : List (Option FrameValue)) (id n claimed : ℕ) (v k w : View) (all : List Token) → Final (Seen (Ring plan) id w) words slots → length slots ≡ n
+    → w ≡ gathered (with_keeper v k) all → w.parts ≡ plan.producers → v.takes ≡ true → v.in_hand ≡ None → v.putting ≡ None → v.mine ≡ [] → v.spent ≡ false → claimed ≡ claimed_of (slice_index words 0)
+    → IsEnd plan.first all v k claimed v.freed v.next (present (slots_from (v.freed % n) slots))
+ended plan words slots id n claimed v k w all final count is parts takes_is empty idle none_mine live claimed_is =
     let s = final.0 in
     let r = final.1.0 in
     let at = final.1.1 in
-    let g = gathered_front v all in
+    let g = gathered_front (with_keeper v k) all in
+    let q = gathered_gate (with_keeper v k) all in
+    let keeps_w : w.keeps ≡ true = ap (λ (x : View). x.keeps) is ∙ q.0 in
+    let gate_w : w.gate ≡ k.gate = ap (λ (x : View). x.gate) is ∙ q.1 in
+    let live_w : w.spent ≡ false = ap (λ (x : View). x.spent) is ∙ q.2 ∙ live in
+    let kept = (r.seats id w at).keeps keeps_w in
     let takes_w : w.takes ≡ true = ap (λ (x : View). x.takes) is ∙ g.0 ∙ takes_is in
     let empty_w : w.in_hand ≡ None = ap (λ (x : View). x.in_hand) is ∙ g.3 ∙ empty in
     let idle_w : w.putting ≡ None = ap (λ (x : View). x.putting) is ∙ g.5 ∙ idle in
@@ -216,9 +227,11 @@ ended plan words slots id n claimed v w all final count is parts takes_is empty 
       lifted_is = omega (arith, next_w, c1, lifted_lengths);
       freed_is = refl;
       claimed_is = omega (arith, now, c0, lengths);
-      once = λ p. sym (gathered_times p v all none_mine) ∙ ap (λ (x : View). times p x.mine) (sym is) ∙ once_mine plan s r id w at takes_w empty_w idle_w parts p ∙ ap (λ m. within plan.first m p) (sym now);
-      stand = gathered_stand plan.first (v.lifted ++ present (slots_from (v.freed % n) slots)) v all
+      once = λ p. sym (gathered_times p (with_keeper v k) all none_mine) ∙ ap (λ (x : View). times p x.mine) (sym is) ∙ once_mine plan s r id w at takes_w empty_w idle_w parts p ∙ ap (λ m. within plan.first m p) (sym now);
+      stand = gathered_stand plan.first (v.lifted ++ present (slots_from (v.freed % n) slots)) (with_keeper v k) all
           (subst (λ (x : View). EachClaim (StandsIn plan.first (v.lifted ++ present (slots_from (v.freed % n) slots))) x.mine) is
           (subst (λ l. EachClaim (StandsIn plan.first l) w.mine) line stand));
       order = (omega (arith, c2, freed_w), omega (arith, c3, freed_w, next_w), omega (arith, c4, next_w, now));
+      later = subst (λ (m : Moment). m.claimed ≤ claimed) gate_w (subst (λ m. w.gate.claimed ≤ m) (sym now) ((r.seats id w at).gate live_w).claimed);
+      still = λ e. now ∙ sym (kept.claimed (ap (λ (m : Moment). m.shut) gate_w ∙ e)) ∙ ap (λ (m : Moment). m.claimed) gate_w;
     }

@@ -1,5 +1,5 @@
 -- The steps that change no word and no slot: each keeps the rule, and tells what the table of steps says.
-use Rattle.std.proofs.Common.{◌≡◌, ◌≢◌, ℕ, ◌+◌, eqb, List, [], set, true, false, refl, sym, ap, ◌∙◌, subst, ⊎_elim, le_refl, arith, append-nil}
+use Rattle.std.proofs.Common.{◌≡◌, ◌≢◌, ℕ, ◌+◌, eqb, List, [], set, true, false, refl, sym, ap, ◌∙◌, subst, ⊎_elim, le_refl, arith, append-nil, ◌<◌}
 use Rattle.std.specs.Prelude.{slice_index, slice_set}
 use Rattle.std.proofs.lemmas.List.{set-get_or}
 use Rattle.std.proofs.lemmas.Bool.Decides.{eqb_tells}
@@ -10,9 +10,9 @@ use Rattle.atomic_table.proofs.Lists.{set_else}
 use Rattle.tap_ring.specs.declared.rule.View.{View}
 use Rattle.tap_ring.specs.declared.rule.Plan.{Plan}
 use Rattle.tap_ring.specs.Moments.{IsPast}
-use Rattle.tap_ring.specs.Standing.{RingState, Standing, IsInHand, Knows, Ring, times}
+use Rattle.tap_ring.specs.Standing.{RingState, Placing, Standing, IsEntered, IsInHand, EachClaim, Knows, Ring, times}
 use Rattle.tap_ring.specs.Steps.{Seated, IsNew, seen_gate, seen_capacity, seen_freed, LoadsGate, LoadsCapacity, LoadsFreed}
-use Rattle.tap_ring.proofs.Kit.{set_there, goes_same, past_later, total_set}
+use Rattle.tap_ring.proofs.Kit.{set_there, goes_same, past_later, entered_below, each_map, total_set}
 use Rattle.tap_ring.proofs.Stays.{Apart, Still, seats_set, place_stays}
 
 module _ (plan : Plan) where
@@ -27,9 +27,15 @@ module _ (plan : Plan) where
     capacity = r.capacity;
   }
 
+  -- each place that a seat claimed is below the claim count
+  all_below : (s : RingState) (r : Ring plan s) (by : ℕ) (v : View) → Knows plan s r.h by v → EachClaim (λ c. c.place < r.h.now.claimed) v.mine
+  all_below s r by v k = each_map (λ c. (x : Placing) × IsEntered plan.first r.h.log c.place x × (x.claim ≡ c)) (λ c. c.place < r.h.now.claimed) v.mine
+      (λ c t. let b = entered_below plan.first r.h.log c.place t.0 t.1 in let l = r.long in omega (arith, b, l)) k.claims.mine
+
   pub new_now : (s : RingState) (r : Ring plan s) (by : ℕ) (v : View) → v.spent ≡ false → Knows plan s r.h by v → IsNew v r.h.now
   new_now s r by v live k = record {
     fits = r.fits;
+    mine = all_below s r by v k;
     gate = past_later s.words r.h.now v.gate (k.gate live) r.capacity;
     asked = past_later s.words r.h.now v.asked (k.asked live) r.capacity;
     room = past_later s.words r.h.now v.room (k.room live) r.capacity;

@@ -12,7 +12,7 @@ use Rattle.tap_ring.specs.declared.rule.View.{View}
 use Rattle.tap_ring.specs.declared.rule.Plan.{Plan}
 use Rattle.tap_ring.specs.Moments.{IsPast}
 use Rattle.tap_ring.specs.Standing.{RingState, Placing, Standing, slots_of, slot_at, word_at, home_at, IsEntered, EachClaim, KnowsClaims, Knows, Ring, times, within}
-use Rattle.tap_ring.specs.Steps.{without_producer, one_producer, without_consumer, the_consumer, with_producer, spent_view}
+use Rattle.tap_ring.specs.Steps.{without_producer, one_producer, without_consumer, the_consumer, with_producer, with_keeper, spent_view}
 use Rattle.tap_ring.proofs.Kit.{off, on, some_not_none, goes_same, each_append, total_set, times-append}
 use Rattle.tap_ring.proofs.Stays.{Apart, Still, knows_apart, place_stays}
 use Rattle.tap_ring.specs.Standing.{maker, opening_moment, first_words}
@@ -263,6 +263,111 @@ module _ (plan : Plan) where
   pub joins_producer : (by : ℕ) (v : View) (other : ℕ) (u : View) → v.takes ≡ true → v.in_hand ≡ None → v.putting ≡ None → u.putting ≡ None
       → Joins (Ring plan) by v other u (with_producer v u) spent_view
   joins_producer by v other u takes_is empty idle theirs_idle s r at apart there = joined_ring s r by v other u at apart there takes_is empty idle theirs_idle
+
+  -- ---- the keeper's part comes to the consumer's seat
+
+  module _ (s : RingState) (r : Ring plan s) (by : ℕ) (v : View) (other : ℕ) (u : View) (at : get_elem? s.views by ≡ some v) (apart : ¬ (other ≡ by)) (there : get_elem? (set s.views by (with_keeper v u)) other ≡ some u)
+      (takes_is : v.takes ≡ true) (empty : v.in_hand ≡ None) (idle : v.putting ≡ None)
+      (keeps_is : u.keeps ≡ true) (live : u.spent ≡ false) (no_parts : u.parts ≡ 0) (no_mine : u.mine ≡ []) (theirs_idle : u.putting ≡ None) where
+    abbrev kw : View
+    kw = with_keeper v u
+
+    abbrev ks : RingState
+    ks = record s { views = set (set s.views by kw) other spent_view }
+
+    abbrev kh : Standing
+    kh = record r.h { keeper = by }
+
+    consumer_knows : Knows plan s r.h by v
+    consumer_knows = r.seats by v at
+
+    keeper_seat : get_elem? s.views other ≡ some u
+    keeper_seat = sym (set_else s.views by other kw apart) ∙ there
+
+    keeper_knows : Knows plan s r.h other u
+    keeper_knows = r.seats other u keeper_seat
+
+    kown : by ≡ r.h.consumer
+    kown = (consumer_knows.front takes_is).own
+
+    kjoined : Knows plan ks kh by kw
+    kjoined =
+        let g = keeper_knows.keeps keeps_is in
+        record {
+          claims = record { mine = consumer_knows.claims.mine; idle = consumer_knows.claims.idle; putting = consumer_knows.claims.putting };
+          front = λ e. let f = consumer_knows.front e in record { own = f.own; next = f.next; freed = f.freed; count = f.count; frames = f.frames; hand = f.hand };
+          keeps = λ _. record { own = refl; shut = g.shut; epoch = g.epoch; resizes = g.resizes; claimed = g.claimed; stored = λ c is. absurd (some_not_none c (sym is)) };
+          gate = λ _. keeper_knows.gate live;
+          asked = consumer_knows.asked;
+          room = consumer_knows.room;
+        }
+
+    kothers : (j : ℕ) (x : View) → j ≢ other → Knows plan s r.h j x → Knows plan ks kh j x
+    kothers j x ne k = record {
+      claims = record { mine = k.claims.mine; idle = k.claims.idle; putting = k.claims.putting };
+      front = λ e. let f = k.front e in record { own = f.own; next = f.next; freed = f.freed; count = f.count; frames = f.frames; hand = f.hand };
+      keeps = λ e. absurd (ne ((k.keeps e).own ∙ sym (keeper_knows.keeps keeps_is).own));
+      gate = k.gate;
+      asked = k.asked;
+      room = k.room;
+    }
+
+    kseats : (j : ℕ) (x : View) → get_elem? ks.views j ≡ some x → Knows plan ks kh j x
+    kseats j x e = ⊎_elim
+        (λ (t : (j ≡ other) × (spent_view ≡ x)). subst (Knows plan ks kh j) t.1 (spent_knows ks kh j))
+        (λ (t : (j ≢ other) × (get_elem? (set s.views by kw) j ≡ some x)). ⊎_elim
+        (λ (y : (j ≡ by) × (kw ≡ x)). subst (λ (z : ℕ × View). Knows plan ks kh z.0 z.1) (λ i. (sym y.0 i, y.1 i)) kjoined)
+        (λ (y : (j ≢ by) × (get_elem? s.views j ≡ some x)). kothers j x t.0 (r.seats j x y.1))
+        (at_set s.views by j kw x t.1))
+        (at_set (set s.views by kw) other j spent_view x e)
+
+    kstill : (p : ℕ) → Still s ks p
+    kstill p j x c here putting place = ⊎_elim
+        (λ (t : (eqb j by ≡ true) × (j ≡ by)). absurd (some_not_none c (sym putting ∙ ap (λ (y : View). y.putting) (some-injective x v (sym here ∙ ap (get_elem? s.views) t.1 ∙ at)) ∙ idle)))
+        (λ (t : (eqb j by ≡ false) × (j ≢ by)). ⊎_elim
+        (λ (z : (eqb j other ≡ true) × (j ≡ other)). absurd (some_not_none c (sym putting ∙ ap (λ (y : View). y.putting) (some-injective x u (sym here ∙ ap (get_elem? s.views) z.1 ∙ keeper_seat)) ∙ theirs_idle)))
+        (λ (z : (eqb j other ≡ false) × (j ≢ other)). (x, set_else (set s.views by kw) other j spent_view z.1 ∙ set_else s.views by j kw t.1 ∙ here, putting))
+        (eqb_tells j other))
+        (eqb_tells j by)
+
+    kept_ring : Ring plan ks
+    kept_ring = record {
+      h = kh;
+      some_slot = r.some_slot;
+      wide = r.wide;
+      gate = r.gate;
+      freed = r.freed;
+      capacity = r.capacity;
+      fits = r.fits;
+      small = r.small;
+      start = r.start;
+      below = r.below;
+      behind = r.behind;
+      ahead = r.ahead;
+      long = r.long;
+      places = λ p a b. place_stays plan.first s ks r.h kh p [] (sym (append-nil r.h.log)) refl refl (λ t. t) (λ t. t) (λ t. t) (λ t. t)
+          (kstill p)
+          (λ k. absurd (some_not_none k.1.1 (sym k.1.3 ∙ ap (λ (x : View). x.in_hand) (some-injective k.1.0 v (sym k.1.2 ∙ sym (ap (get_elem? s.views) kown) ∙ at)) ∙ empty)))
+          (r.places p a b);
+      seats = kseats;
+      parts =
+          let t = total_set (λ x. x.parts) s.views by v kw at in
+          let y = total_set (λ x. x.parts) (set s.views by kw) other u spent_view there in
+          let o = r.parts in
+          omega (arith, t, y, o, no_parts);
+      once = λ p.
+          let t = total_set (λ x. times p x.mine) s.views by v kw at in
+          let y = total_set (λ x. times p x.mine) (set s.views by kw) other u spent_view there in
+          let m = ap (times p) no_mine in
+          let o = r.once p in
+          omega (arith, t, y, m, o);
+    }
+
+  pub joins_keeper : (by : ℕ) (v : View) (other : ℕ) (u : View) → v.takes ≡ true → v.in_hand ≡ None → v.putting ≡ None
+      → u.keeps ≡ true → u.spent ≡ false → u.parts ≡ 0 → u.mine ≡ [] → u.putting ≡ None
+      → Joins (Ring plan) by v other u (with_keeper v u) spent_view
+  joins_keeper by v other u takes_is empty idle keeps_is live no_parts no_mine theirs_idle s r at apart there =
+      kept_ring s r by v other u at apart there takes_is empty idle keeps_is live no_parts no_mine theirs_idle
 
   -- ---- the beginning
 

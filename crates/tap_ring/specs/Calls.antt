@@ -31,10 +31,11 @@ token ring view = record { ring = ring; view = view }
 
 -- ---- what every call of a token keeps
 
--- nothing that the token saw has fallen
+-- nothing that the token saw has fallen, and the claim count is above each place that it had claimed
 pub record SawMore (v w : View) : Type 0 where
   pub gate : IsLater v.gate w.gate
   pub room : IsLater v.room w.room
+  pub mine : EachClaim (λ c. c.place < w.gate.claimed) v.mine
 
 -- a producer between two calls
 pub record IsProducer (v : View) : Type 0 where
@@ -57,6 +58,9 @@ pub record IsConsumer (v : View) : Type 0 where
 pub record IsKeeper (v : View) : Type 0 where
   pub keeps : v.keeps ≡ true
   pub resizes : v.gate.resizes < 2 ^ 7
+  pub parts : v.parts ≡ 0
+  pub mine : v.mine ≡ []
+  pub putting : v.putting ≡ None
   pub spent : v.spent ≡ false
 
 -- it is the same token, with the same claims, and the same frames lifted
@@ -74,6 +78,7 @@ pub record Asked (epoch : ℕ) (v w : View) : Type 0 where
   pub open_then : IsOpen epoch w.asked
   pub unspent : ¬ IsSpent w.asked
   pub later : IsLater v.gate w.asked
+  pub mine : EachClaim (λ c. c.place < w.asked.claimed) v.mine
   pub order : IsLater w.asked w.room
   pub capacity_loads : w.capacity_loads ≡ v.capacity_loads + 1
   pub freed_loads : w.freed_loads ≡ v.freed_loads + 1
@@ -83,9 +88,13 @@ pub record Asked (epoch : ℕ) (v w : View) : Type 0 where
 abbrev pub FoundFull : View → Type 0
 FoundFull w = w.room.freed + w.asked.capacity ≤ w.asked.claimed
 
--- the place is this producer's, above all its earlier ones: at the exchange the gate was open and there was room
+-- There was room by the numbers loaded, and the exchange met the gate that was loaded. The place is this producer's,
+-- above all its earlier ones: at the exchange the gate was open and there was room.
 pub record Placed (epoch : ℕ) (frame : FrameValue) (place : ℕ) (v w : View) : Type 0 where
   pub asked : Asked epoch v w
+  pub found : ¬ FoundFull w
+  pub same_gate : gate_of w.gate ≡ gate_of w.asked
+  pub order : IsLater w.room w.gate
   pub open_then : IsOpen epoch w.gate
   pub room : HasRoom w.gate
   pub place_is : place ≡ w.gate.claimed
@@ -124,6 +133,7 @@ pub record IsContended (epoch expected found resizes : ℕ) (v w : View) : Type 
   pub asked : Asked epoch v w
   pub expected_is : expected ≡ gate_of w.asked
   pub found_is : found ≡ gate_of w.gate
+  pub order : IsLater w.room w.gate
   pub differ : expected ≢ found
   pub resizes_is : resizes ≡ w.asked.resizes
   pub cause : (¬ FoundFull w) ⊎ (FoundFull w × (w.gate.resizes ≢ w.asked.resizes))
@@ -205,7 +215,7 @@ StaysShut v freed (NotDrained claimed freed_then) =
     (claimed ≡ v.gate.claimed) × (freed_then ≡ freed) × (claimed ≢ freed_then)
 StaysShut v freed EpochsSpent = (v.gate.claimed ≡ freed) × (v.gate.epoch ≡ 65535)
 
--- the next number of resizes has this capacity; the claim count is the answer
+-- the next number of resizes has this capacity; the claim count is the answer, and of a shut gate it stays
 pub record IsResized (capacity claimed : ℕ) (v w : View) : Type 0 where
   pub same : SameHands v w
   pub few : v.gate.resizes < 127
@@ -213,6 +223,7 @@ pub record IsResized (capacity claimed : ℕ) (v w : View) : Type 0 where
   pub capacity_is : w.gate.capacity ≡ capacity
   pub resizes : w.gate.resizes ≡ v.gate.resizes + 1
   pub claimed_is : claimed ≡ w.gate.claimed
+  pub still : v.gate.shut ≡ true → w.gate.claimed ≡ v.gate.claimed
   pub shut : w.gate.shut ≡ v.gate.shut
   pub epoch : w.gate.epoch ≡ v.gate.epoch
 
@@ -238,8 +249,8 @@ AllStand first line [] = Unit {0}
 AllStand first line (t ∷ ts) = EachClaim (StandsIn first line) t.view.mine × AllStand first line ts
 
 -- What was lifted and what is left are the frames of all places, in order; each place is one producer's claim, once,
--- with the frame that it put.
-pub record IsEnd (first : ℕ) (all : List Token) (c : View) (claimed freed lifted : ℕ) (left : List FrameValue)
+-- with the frame that it put. No place was given out since the keeper shut the gate, if it is shut.
+pub record IsEnd (first : ℕ) (all : List Token) (c k : View) (claimed freed lifted : ℕ) (left : List FrameValue)
     : Type 0 where
   pub lifted_is : lifted ≡ first + length c.lifted
   pub freed_is : freed ≡ c.freed
@@ -247,3 +258,5 @@ pub record IsEnd (first : ℕ) (all : List Token) (c : View) (claimed freed lift
   pub once : (p : ℕ) → claims_to p all ≡ within first claimed p
   pub stand : AllStand first (c.lifted ++ left) all
   pub order : (first ≤ freed) × (freed ≤ lifted) × (lifted ≤ claimed)
+  pub later : k.gate.claimed ≤ claimed
+  pub still : k.gate.shut ≡ true → claimed ≡ k.gate.claimed

@@ -17,9 +17,10 @@ Seated = Me (Option FrameValue) View
 abbrev pub RingStep : Type 0
 RingStep = Step (Option FrameValue)
 
--- this moment is behind none that the view has
+-- this moment is behind none that the view has, nor behind its claims
 pub record IsNew (v : View) (m : Moment) : Type 0 where
   pub fits : Fits m
+  pub mine : EachClaim (λ c. c.place < m.claimed) v.mine
   pub gate : IsLater v.gate m
   pub asked : IsLater v.asked m
   pub room : IsLater v.room m
@@ -63,13 +64,12 @@ with_claim m frame v = record (seen_gate m v) {
   putting = Some (claim m.claimed m.epoch frame);
 }
 
--- kind 3, exchange the gate: on a match one more claim, of the place that the claim count had, above all earlier ones
+-- kind 3, exchange the gate: on a match one more claim, of the place that the claim count had
 abbrev pub Exchanges : RingStep → Seated → ℕ → Seated → Type 0
 Exchanges st v found w =
     (m : Moment) × (found ≡ gate_of m) × IsNew v.0 m
     × MatchBool (found == st.first)
-    (HasRoom m × EachClaim (λ c. c.place < m.claimed) v.0.mine
-    × ((frame : FrameValue) × (st.said ≡ some (Some frame)) × (w.0 ≡ with_claim m frame v.0))
+    (HasRoom m × ((frame : FrameValue) × (st.said ≡ some (Some frame)) × (w.0 ≡ with_claim m frame v.0))
     × (w.1 ≡ (m.claimed % st.slots, None) ∷ v.1))
     ((w.0 ≡ seen_gate m v.0) × (w.1 ≡ v.1))
 
@@ -159,6 +159,10 @@ the_consumer v = record v { parts = 0; keeps = false }
 abbrev pub with_producer : View → View → View
 with_producer v w = record v { parts = v.parts + w.parts; mine = v.mine ++ w.mine }
 
+-- the keeper's part comes to another seat
+abbrev pub with_keeper : View → View → View
+with_keeper v w = record v { keeps = true; stored = None; gate = w.gate }
+
 abbrev pub no_plan : Plan
 no_plan = record { first = 0; capacity = 0; producers = 0 }
 
@@ -171,8 +175,8 @@ spent_view = record (new_producers no_plan 0) { spent = true }
 -- the place was claimed at this moment, at which the gate was the expected one, and the frame was put there
 abbrev pub ClaimedThen : FrameValue → ℕ → View → View → Type 0
 ClaimedThen frame place v w =
-    (m : Moment) × (gate_of m ≡ gate_of v.gate) × IsNew v m × HasRoom m × EachClaim (λ c. c.place < m.claimed) v.mine
-    × (place ≡ m.claimed) × (w ≡ record (with_claim m frame v) { putting = None })
+    (m : Moment) × (gate_of m ≡ gate_of v.gate) × IsNew v m × HasRoom m × (place ≡ m.claimed)
+    × (w ≡ record (with_claim m frame v) { putting = None })
 
 -- the exchange met another gate word
 abbrev pub MissedThen : ℕ → ℕ → View → View → Type 0

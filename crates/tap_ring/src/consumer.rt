@@ -31,9 +31,10 @@ impl Model for Consumer {
     ghost invariant = { λ c. IsConsumer c.seat.me.0 × (c.seat.me.1 ≡ []) × (c.front ≡ c.seat.me.0.next) × (c.freed ≡ c.seat.me.0.freed) };
 }
 
-/// The front place isn't put yet.
+/// The front place has no frame yet: it isn't claimed, or its frame isn't put.
 #[derive(Clone, Copy, Debug, PartialEq, Eq, Drop)]
 pub struct NotReady {
+    /// The front place.
     pub place: u64,
 }
 
@@ -77,8 +78,9 @@ impl Consumer {
 }
 
 impl TapRing {
-    /// Takes the front frame, and doesn't free its place. Or else says that the front place's number
-    /// wasn't there.
+    /// Takes the front frame, and doesn't free its place.
+    ///
+    /// `NotReady` where the front place's number wasn't there at a load of this call.
     pub fn lift(&self, c: &mut Consumer) -> Result<Frame, NotReady>
         requires ring { c.old.ring ≡ self.now.ring }
         ensures ring { c.new.ring ≡ c.old.ring }
@@ -96,7 +98,8 @@ impl TapRing {
         }
     }
 
-    /// Frees one more of the places that were lifted. Gives the freed count.
+    /// Frees the first of the places that were lifted and not freed; there must be one. Gives the freed
+    /// count.
     pub fn free(&self, c: &mut Consumer) -> u64
         requires ring { c.old.ring ≡ self.now.ring }
         requires lifted { c.old.view.freed < c.old.view.next }
@@ -109,7 +112,9 @@ impl TapRing {
         c.freed
     }
 
-    /// Takes the front frame and frees its place.
+    /// Takes the front frame, and frees one place: the first that was lifted and not freed.
+    ///
+    /// `NotReady` as of `lift`; nothing is freed then.
     pub fn take(&self, c: &mut Consumer) -> Result<Frame, NotReady>
         requires ring { c.old.ring ≡ self.now.ring }
         ensures ring { c.new.ring ≡ c.old.ring }

@@ -3,13 +3,13 @@
 ghost use Rattle.std.specs.Prelude.{◌≡◌, ℕ, ◌+◌, ◌-◌, ◌%◌, ◌<◌, ◌≤◌, true, false, [], ◌∷◌, ◌++◌, take, drop, length, slice_index_or, vec_len, vec_capacity, None};
 ghost use Rattle.std.specs.Mem.Slots.{slots_items, slots_filled, slots_len, IsFull};
 ghost use Rattle.tap_ring.specs.Calls.{IsEnd, AllOfRing};
-ghost use Rattle.tap_ring.specs.Steps.{with_producer};
+ghost use Rattle.tap_ring.specs.Steps.{with_producer, with_keeper};
 ghost use Rattle.tap_ring.specs.Leaving.{present, slots_from, gathered};
 
 use crate::consumer::Consumer;
 use crate::gate::claimed_of;
 use crate::keeper::Keeper;
-use crate::plays::TakesProducer;
+use crate::plays::{TakesKeeper, TakesProducer};
 use crate::producer::Producer;
 use crate::ring::TapRing;
 use crate::rule::{Places, RingSeat};
@@ -20,11 +20,13 @@ use tap_frame::Frame;
 
 /// A ring that is at its end.
 pub struct Ended {
+    /// The claim count: one more than the last place that was claimed.
     pub claimed: u64,
+    /// The freed count: the first place that wasn't freed.
     pub freed: u64,
     /// The front place: the first that wasn't lifted.
     pub lifted: u64,
-    /// The frames of the places from `lifted` to `claimed` - 1.
+    /// The frames of the places from `lifted` to `claimed` - 1, in order.
     pub left: Vec<Frame>,
 }
 
@@ -38,6 +40,22 @@ fn join(places: &Places, seat: &mut RingSeat, p: Producer)
 {
     let Producer { seat: theirs } = p;
     places.join_seat::<TakesProducer>(seat, theirs);
+}
+
+// What the keeper knows comes to the consumer's seat.
+fn join_keeper(places: &Places, seat: &mut RingSeat, k: Keeper)
+    requires ring { (seat.old.table_id ≡ places.now.table_id) × (k.ring ≡ places.now.table_id) × (0 < places.now.table_id.words) }
+    requires consumer { (seat.old.me.0.takes ≡ true) × (seat.old.me.0.in_hand ≡ None) × (seat.old.me.0.putting ≡ None) × (seat.old.me.1 ≡ []) }
+    ensures ring { seat.new.table_id ≡ seat.old.table_id }
+    ensures joined { seat.new.me ≡ (with_keeper seat.old.me.0 k.view, []) }
+{
+    let Keeper {
+        seat: theirs,
+        epoch: _,
+        resizes: _,
+        claimed: _,
+    } = k;
+    places.join_seat::<TakesKeeper>(seat, theirs);
 }
 
 // All producers' claims come to the consumer's seat.
@@ -108,12 +126,13 @@ fn empty_from(
 
 impl TapRing {
     /// Ends the ring, with all its producers. What the consumer lifted and what is left are the
-    /// frames of all places that were claimed, in order, and each place is one producer's claim.
-    pub fn finish(self, all: Vec<Producer>, c: Consumer, _k: Keeper) -> Ended
+    /// frames of all places that were claimed, in order, and each place is one producer's claim. Of a
+    /// gate that is shut the claim count is the one that the keeper knows.
+    pub fn finish(self, all: Vec<Producer>, c: Consumer, k: Keeper) -> Ended
         requires producers { AllOfRing self.ring all.items × (length all.items ≡ self.plan.producers) }
         requires consumer { c.ring ≡ self.ring }
-        requires keeper { _k.ring ≡ self.ring }
-        ensures { IsEnd self.plan.first all.items c.view result.claimed result.freed result.lifted result.left.items }
+        requires keeper { k.ring ≡ self.ring }
+        ensures { IsEnd self.plan.first all.items c.view k.view result.claimed result.freed result.lifted result.left.items }
     {
         let TapRing { table, most, left } = self;
         let Consumer {
@@ -121,6 +140,7 @@ impl TapRing {
             front,
             freed,
         } = c;
+        join_keeper(&table.shared, &mut seat, k);
         gather(&table.shared, &mut seat, all);
         let closed = table.close_with(seat);
         let claimed = claimed_of(closed.word(GATE));
@@ -155,6 +175,7 @@ impl Ended {
     }
 }
 
+// Ends each of these frames.
 fn end_all(mut left: Vec<Frame>) {
     while let Some(frame) = left.pop() {
         let _ = frame.end();

@@ -12,28 +12,32 @@ pub(crate) const TURN: u64 = 1 << 40;
 /// What is one more resize.
 pub(crate) const RESIZE: u64 = 1 << 57;
 
+/// The claim count: bits 0 to 39.
 pub(crate) fn claimed_of(word: u64) -> u64
     ensures { result ≡ parts.claimed_of word }
 {
-    word % (1 << 40)
+    word % CLAIMS_END
 }
 
+/// Whether the gate is shut: bit 40.
 pub(crate) fn is_shut(word: u64) -> bool
     ensures { result ≡ parts.is_shut word }
 {
-    word / (1 << 40) % 2 == 1
+    word / TURN % 2 == 1
 }
 
+/// The epoch: bits 41 to 56.
 pub(crate) fn epoch_of(word: u64) -> u16
     ensures { result ≡ parts.epoch_of word }
 {
-    (word / (1 << 41) % (1 << 16)) as u16
+    (word / (2 * TURN) % (1 << 16)) as u16
 }
 
+/// The number of resizes: bits 57 to 63.
 pub(crate) fn resizes_of(word: u64) -> u8
     ensures { result ≡ parts.resizes_of word }
 {
-    (word / (1 << 57)) as u8
+    (word / RESIZE) as u8
 }
 
 /// The parts of a word are what it was made of.

@@ -33,10 +33,13 @@ impl Model for Keeper {
     ghost invariant = { λ k. IsKeeper k.seat.me.0 × (k.seat.me.1 ≡ []) × (k.epoch ≡ k.seat.me.0.gate.epoch) × (k.resizes ≡ k.seat.me.0.gate.resizes) × (k.claimed ≡ k.seat.me.0.gate.claimed) };
 }
 
-/// Why a gate stays shut.
+/// The greatest number of resizes.
+const RESIZES_END: u8 = 127;
+
+/// Why a gate stays shut. The first that holds is told.
 #[derive(Clone, Copy, Debug, PartialEq, Eq, Drop)]
 pub enum Reopen {
-    /// Not every place that was claimed is free again.
+    /// Not every place that was claimed is free again: the claim count and the freed count.
     NotDrained { claimed: u64, freed: u64 },
     /// The epoch is the last one, 65,535.
     EpochsSpent,
@@ -62,7 +65,7 @@ impl Keeper {
 }
 
 impl TapRing {
-    /// Shuts the gate: no place is claimed until it is reopened. Gives the claim count.
+    /// Shuts an open gate: no place is claimed until it is reopened. Gives the claim count, below 2^40.
     pub fn shut(&self, k: &mut Keeper) -> u64
         requires ring { k.old.ring ≡ self.now.ring }
         requires unshut { k.old.view.gate.shut ≡ false }
@@ -74,8 +77,10 @@ impl TapRing {
         k.claimed
     }
 
-    /// Reopens a gate at the next epoch, where the count of claims that the keeper knows is the
-    /// consumer's count of freed places. Gives the epoch.
+    /// Reopens a shut gate at the next epoch, where the claim count that the keeper knows is the
+    /// consumer's freed count. Gives the epoch.
+    ///
+    /// Else `NotDrained`; or where the epoch is 65,535, `EpochsSpent`. The gate then stays as it is.
     pub fn reopen(&self, k: &mut Keeper, c: &Consumer) -> Result<u16, Reopen>
         requires keeper { k.old.ring ≡ self.now.ring }
         requires consumer { c.now.ring ≡ self.now.ring }
@@ -100,7 +105,10 @@ impl TapRing {
         Ok(k.epoch)
     }
 
-    /// Sets the capacity, from the next claim on. Gives the claim count at that step.
+    /// Sets the capacity, 1 to the number of slots, from the next claim on. Gives the claim count at
+    /// that step. The gate may be open or shut.
+    ///
+    /// `ResizesSpent` where the ring has been resized 127 times: nothing changes.
     pub fn resize(&self, k: &mut Keeper, capacity: u16) -> Result<u64, ResizesSpent>
         requires ring { k.old.ring ≡ self.now.ring }
         requires capacity { (1 ≤ capacity) × (capacity ≤ self.now.most) }
@@ -109,7 +117,7 @@ impl TapRing {
         ensures spent { IfErr result (λ e. k.old.view.gate.resizes ≡ 127) }
         ensures unchanged { IfErr result (λ e. k.new.view ≡ k.old.view) }
     {
-        if k.resizes == 127 {
+        if k.resizes == RESIZES_END {
             return Err(ResizesSpent);
         }
         store_capacity(&self.table.shared, &mut k.seat, k.resizes, capacity);

@@ -52,8 +52,9 @@ fn deal(places: &Places, seat: &mut RingSeat, mut all: Vec<Producer>, count: u16
 }
 
 impl TapRing {
-    /// A ring with so many slots, this capacity and this first place, for so many producers. It is
-    /// shut, at epoch 0. All memory that it ever takes is taken here.
+    /// A ring with `most` slots (1 to 1,024), this capacity (1 to `most`) and this first place (below
+    /// 2^40), for so many producers (1 or more). It is shut, at epoch 0. All memory that it ever takes
+    /// is taken here, and the only error is that there is none.
     pub fn new(
         alloc: Global,
         most: u16,

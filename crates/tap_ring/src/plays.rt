@@ -122,6 +122,17 @@ impl Split<View> for TheConsumer {
     ghost right = { the_consumer };
 }
 
+// The keeper's part comes to another seat.
+pub(crate) struct TakesKeeper;
+
+impl Join<View> for TakesKeeper {
+    ghost use Rattle.tap_ring.specs.Steps.{with_keeper, spent_view};
+
+    ghost both = { with_keeper };
+
+    ghost spent = { spent_view };
+}
+
 // A producer's claims come to another seat.
 pub(crate) struct TakesProducer;
 

@@ -42,7 +42,7 @@ pub enum Why {
     Spent { claimed: u64 },
     /// The claim count was by the capacity or more above the freed count that was loaded after it.
     Full { claimed: u64, freed: u64 },
-    /// Another step came between: the gate word expected, and the one found.
+    /// The gate changed since it was loaded: the gate word expected, and the one found.
     Contended { expected: u64, found: u64 },
 }
 
@@ -50,7 +50,7 @@ pub enum Why {
 pub struct PutBack {
     pub frame: Frame,
     pub why: Why,
-    /// The number of resizes in the gate word that the call loaded first.
+    /// The number of resizes, 0 to 127, in the gate word that the call loaded first.
     pub resizes: u8,
 }
 
@@ -187,10 +187,11 @@ fn put(
 impl TapRing {
     /// Claims the next place under this epoch, and puts the frame there. Gives the place.
     ///
-    /// Or else gives the frame back as it was: `Gone` where the gate that this call loaded was shut
-    /// or had another epoch, `Spent` where its claim count was 2^40 - 1, `Full` where that count was by
-    /// the capacity or more above the freed count loaded after it, and `Contended` where another
-    /// step came between. It never waits, and takes no memory.
+    /// Or else gives the frame back as it was, with the first of these that holds: `Gone` where the gate
+    /// that this call loaded was shut or had another epoch, `Spent` where its claim count was 2^40 - 1,
+    /// `Full` where that count was by the capacity or more above the freed count loaded after it, and
+    /// the ring wasn't resized in between, and `Contended` where the gate changed since. It never waits,
+    /// and takes no memory.
     pub fn try_put(&self, p: &mut Producer, epoch: u16, frame: Frame) -> Result<u64, PutBack>
         requires ring { p.old.ring ≡ self.now.ring }
         ensures ring { p.new.ring ≡ p.old.ring }

@@ -14,8 +14,11 @@ pub struct Moment {
     /// The freed count: the first place that isn't free again.
     pub freed: u64,
     pub shut: bool,
+    /// How often the gate was reopened, up to 65,535.
     pub epoch: u16,
+    /// How often the ring was resized, up to 127.
     pub resizes: u8,
+    /// How many places may be claimed and not freed, in frames.
     pub capacity: u16,
 }
 
@@ -50,17 +53,22 @@ pub struct View {
     pub stored: Option<u16>,
     /// Whether another token took over what it knew.
     pub spent: bool,
-    /// What the ring was when it met the gate last.
+    /// What the ring was when it met the gate last, by a load or an exchange; a keeper's own steps
+    /// on the gate count.
     pub gate: Moment,
+    /// How often it met the gate.
     pub gate_loads: u64,
-    /// What the ring was when it loaded the gate before the capacity.
+    /// What the ring was when it met the gate last before it loaded a capacity.
     pub asked: Moment,
+    /// How often it loaded a capacity.
     pub capacity_loads: u64,
     /// What the ring was when it loaded the freed count last.
     pub room: Moment,
+    /// How often it loaded the freed count.
     pub freed_loads: u64,
     /// The word that it found at the front place last.
     pub front: u64,
+    /// How often it loaded the front place's word to see whether its frame is there.
     pub front_loads: u64,
 }
 
