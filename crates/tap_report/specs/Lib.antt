@@ -1,3 +1,4 @@
+pub mod Examples
 pub mod Following
 pub mod Frames
 pub mod Index

@@ -6,6 +6,7 @@
 //! `specs/Following.antt` says what may follow a trace.
 #![tactic(auto)]
 
+mod examples;
 mod following;
 mod frames;
 mod index;
@@ -18,6 +19,7 @@ mod summary;
 mod tests;
 mod turns;
 
+pub use examples::worked_examples;
 pub use following::may_follow;
 pub use json::report_json;
 pub use printing::report_text;
