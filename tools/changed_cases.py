@@ -1,4 +1,7 @@
-# base example; {line: new text or None to remove it}; what the verdict has to be, from the rules
+"""Traces that are changed at one place: the example, {line: new text, or None to leave it out}, and the verdict.
+
+The verdicts were written by hand from the rules, before the definition was asked.
+"""
 CASES = [
  ("r1/00", {11: "line 0 1 0.2.0 18 read"}, "illegal 5 c"),
  ("r1/00", {6: "ans 0 2 1 read 0.1.0 0 0200000000010200000000aa0800fb"}, "illegal 6 b"),

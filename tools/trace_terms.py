@@ -1,7 +1,7 @@
 #!/usr/bin/env python3
 """The text of a trace as a term of antt: a record of phases, files, guests and rings."""
 
-USES = """use Rattle.std.specs.Prelude.{◌≡◌, ℕ, refl, Some, None, List, [], ◌∷◌, codes, true, false}
+USES = [line for line in """use Rattle.std.specs.Prelude.{◌≡◌, ℕ, refl, Some, None, List, [], ◌∷◌, codes, true, false}
 use Rattle.tap_trace.specs.declared.answer.Answer.TheVariants as answer
 use Rattle.tap_trace.specs.declared.causes.TapText.TheVariants as tap
 use Rattle.tap_trace.specs.declared.causes.Invalid.TheVariants as invalid
@@ -19,7 +19,7 @@ use Rattle.tap_ledger.specs.declared.fate.Cause.TheVariants as cause
 use Rattle.tap_ledger.specs.declared.side.Side.TheVariants as side
 use Rattle.tap_frame.specs.declared.reading.BadFrame.TheVariants as bad
 use Rattle.scen_words.specs.declared.command.Command.TheVariants as command
-""".split("\n")
+""".split("\n") if line]
 
 BAD = ["", "ShortPi", "ShortHdr", "HdrBeyond", "ShortEther", "HdrShort", "TooLong"]
 

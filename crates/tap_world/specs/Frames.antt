@@ -1,7 +1,6 @@
 -- This project's own: frames where they are sent, written and read. What stands in front of a file's frames is told by
 -- the table: whether packet information does, and the size of a header, if there is one.
-use Rattle.std.specs.Prelude.{ℕ, ◌+◌, ◌&&◌, nat_lt, Bool, false, List, [], ◌∷◌, ◌++◌, length, take, drop, Option, Some, None, unwrap_or, if◌then◌else◌}
-use Rattle.std.specs.Option.{option_map_or}
+use Rattle.std.specs.Prelude.{ℕ, ◌+◌, ◌&&◌, nat_lt, Bool, false, List, [], ◌∷◌, ◌++◌, length, take, drop, Option, Some, None, unwrap_or, option_map, if◌then◌else◌}
 use Rattle.tap_frame.specs.declared.header.Hdr.{Hdr}
 use Rattle.tap_frame.specs.declared.reading.BadFrame.{BadFrame}
 use Rattle.tap_frame.specs.declared.reading.BadFrame.TheVariants.{ShortPi, ShortHdr, HdrBeyond, ShortEther, HdrShort, TooLong}
@@ -40,7 +39,7 @@ ether_in front bytes = drop (least_in front) bytes
 
 -- the header's ten bytes, or zeros
 abbrev pub header_in : Front → List ℕ → List ℕ
-header_in front bytes = option_map_or (λ size. take 10 (behind_pi front bytes)) front.1 no_header
+header_in front bytes = unwrap_or (option_map (λ size. take 10 (behind_pi front bytes)) front.1) no_header
 
 -- the frame that is spelled
 abbrev pub frame_in : Front → List ℕ → FrameText

@@ -7,10 +7,10 @@ use Rattle.tap_steer.specs.Select as select
 use Rattle.scen_text.specs.Before as before
 use Rattle.tap_legal.proofs.laws.worked_verdicts.Goals as goal
 
-pub returns-legal : goal.returns-legal
+pub returns-clause-legal : goal.returns-clause-legal
 unfolding flow_key.key table.first after.set_iff rules.refuse rules.set_iff_rules select.select before.number_among
-returns-legal c = refl
+returns-clause-legal c = refl
 
-pub returns-illegal : goal.returns-illegal
+pub returns-clause-illegal : goal.returns-clause-illegal
 unfolding flow_key.key table.first after.set_iff rules.refuse rules.set_iff_rules select.select before.number_among
-returns-illegal c = refl
+returns-clause-illegal c = refl

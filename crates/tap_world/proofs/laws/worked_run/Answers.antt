@@ -6,10 +6,10 @@ use Rattle.tap_steer.specs.Rules as rules
 use Rattle.tap_steer.specs.Select as select
 use Rattle.tap_world.proofs.laws.worked_run.Goals as goal
 
-pub returns-trace : goal.returns-trace
+pub returns-clause-trace : goal.returns-clause-trace
 unfolding flow_key.key table.first after.set_iff rules.refuse rules.set_iff_rules select.select
-returns-trace c = refl
+returns-clause-trace c = refl
 
-pub returns-full : goal.returns-full
+pub returns-clause-full : goal.returns-clause-full
 unfolding flow_key.key table.first after.set_iff rules.refuse rules.set_iff_rules select.select
-returns-full c = refl
+returns-clause-full c = refl
