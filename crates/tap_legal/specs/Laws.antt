@@ -1,5 +1,5 @@
 -- This project's own: what the definition of a legal trace means, and worked verdicts.
-use Rattle.std.specs.Prelude.{◌≡◌, ℕ, ◌↔◌, [], ◌∷◌, Some, None}
+use Rattle.std.specs.Prelude.{◌≡◌, ◌↔◌, [], Some}
 use Rattle.scen_text.specs.declared.scenario.Scenario.{Scenario}
 use Rattle.tap_trace.specs.declared.trace.Trace.{Trace}
 use Rattle.tap_world.specs.Examples.{scenario, sent_by, trace_of}

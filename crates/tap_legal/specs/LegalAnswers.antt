@@ -1,12 +1,10 @@
 -- This project's own, clause b of a legal trace: one answer for each command, by what its actor had seen.
-use Rattle.std.specs.Prelude.{ℕ, ◌+◌, ◌-◌, ◌==◌, ◌&&◌, ◌||◌, not, nat_lt, nat_le, if◌then◌else◌, Bool, true, false, List, [], ◌∷◌, ◌++◌, length, map, filter, bytes_eq, option_map, is_some, is_none, Option, Some, None}
+use Rattle.std.specs.Prelude.{ℕ, ◌==◌, ◌&&◌, not, nat_lt, nat_le, if◌then◌else◌, Bool, true, false, List, ◌++◌, length, bytes_eq, is_some, is_none, Option, Some, None}
 use Rattle.std.specs.List.{list_any}
 use Rattle.std.specs.Option.{option_map_or}
 use Rattle.tap_flow_key.specs.Fnv.{fnv_of}
-use Rattle.tap_frame.specs.declared.header.Hdr.{Hdr}
 use Rattle.tap_frame.specs.declared.name.Name.{Name}
 use Rattle.tap_frame.specs.declared.reading.BadFrame.{BadFrame}
-use Rattle.tap_ledger.specs.declared.fate.Cause.{Cause}
 use Rattle.tap_ledger.specs.declared.fate.Cause.TheVariants as cause
 use Rattle.tap_steer.specs.declared.selection.Select.{Select}
 use Rattle.tap_steer.specs.declared.selection.Select.TheVariants as select
@@ -20,10 +18,10 @@ use Rattle.tap_trace.specs.declared.answer.Answer.TheVariants as answer
 use Rattle.tap_trace.specs.declared.causes.TapText.TheVariants.{EBADFD}
 use Rattle.tap_world.specs.Frames.{Front, bad_in, ether_in, least_in, sent_bytes, sent_front, text_in}
 use Rattle.tap_world.specs.Setup.{frame_of}
-use Rattle.tap_legal.specs.Numbered.{AnswerAt, Asked, EntryAt, OpAt, PhaseAt, Told, same_told}
+use Rattle.tap_legal.specs.Numbered.{AnswerAt, Asked, EntryAt, OpAt, PhaseAt, same_told}
 use Rattle.tap_legal.specs.Same.{is_bad, same_refusal}
 use Rattle.tap_legal.specs.Case.{Case, fails_as, fails_each, fails_missing, fails_order, of_answer}
-use Rattle.tap_legal.specs.Lookups.{entry_named, is_below_own, is_own_next, newest_before, newest_of, ops_of, seen_before, some_version, table_at}
+use Rattle.tap_legal.specs.Lookups.{entry_named, is_below_own, newest_before, newest_of, ops_of, seen_before, some_version, table_at}
 use Rattle.tap_legal.specs.LegalTable.{is_learning}
 
 -- ---- the commands

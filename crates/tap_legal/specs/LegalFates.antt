@@ -1,7 +1,6 @@
 -- This project's own, clause h of a legal trace: each accepted frame has one fate, and no other name stands in the
 -- trace.
 use Rattle.std.specs.Prelude.{ℕ, ◌+◌, ◌==◌, ◌&&◌, ◌||◌, not, nat_lt, if◌then◌else◌, Bool, true, false, List, [], ◌∷◌, ◌++◌, length, filter, flat_map, is_none, Option, Some, None}
-use Rattle.std.specs.List.{list_any}
 use Rattle.std.specs.Option.{option_map_or}
 use Rattle.tap_frame.specs.declared.name.Name.{Name}
 use Rattle.scen_words.specs.declared.command.Command.{Command}
@@ -13,10 +12,10 @@ use Rattle.tap_ledger.specs.declared.fate.Fate.{Fate}
 use Rattle.tap_ledger.specs.declared.fate.Fate.TheVariants as fate
 use Rattle.tap_ledger.specs.declared.fate.Cause.TheVariants as cause
 use Rattle.tap_legal.specs.Numbered.{AnswerAt, Asked, EntryAt, FileAt, StepAt, Told}
-use Rattle.tap_legal.specs.Replay.{Packet, Replay}
+use Rattle.tap_legal.specs.Replay.{Packet}
 use Rattle.tap_legal.specs.Replays.{Replays, are_of_one, is_whole, packets_of}
 use Rattle.tap_legal.specs.Case.{Case, fails_each, of_answer, of_entry, of_file, of_step}
-use Rattle.tap_legal.specs.Lookups.{answer_of, asked_at, same_name}
+use Rattle.tap_legal.specs.Lookups.{asked_at, same_name}
 use Rattle.tap_legal.specs.Takes.{copied, copies_of, has_guest, readers, was_read}
 
 -- ---- names

@@ -1,8 +1,7 @@
 -- This project's own, clause e of a legal trace: frames that found their attachment gone.
-use Rattle.std.specs.Prelude.{ℕ, ◌==◌, ◌&&◌, ◌||◌, not, nat_lt, nat_le, Bool, true, false, List, Option, Some, None}
+use Rattle.std.specs.Prelude.{ℕ, ◌==◌, ◌&&◌, ◌||◌, not, nat_lt, nat_le, Bool, true, false, List, Option, Some}
 use Rattle.std.specs.List.{list_any}
 use Rattle.std.specs.Option.{option_map_or}
-use Rattle.tap_ledger.specs.declared.fate.Cause.{Cause}
 use Rattle.tap_ledger.specs.declared.fate.Cause.TheVariants as cause
 use Rattle.tap_steer.specs.declared.selection.Select.{Select}
 use Rattle.tap_steer.specs.declared.selection.Select.TheVariants as select
@@ -12,7 +11,7 @@ use Rattle.scen_words.specs.declared.command.Command.TheVariants as command
 use Rattle.tap_trace.specs.declared.answer.Answer.{Answer}
 use Rattle.tap_trace.specs.declared.answer.Answer.TheVariants as answer
 use Rattle.tap_world.specs.Frames.{ether_in, sent_bytes, sent_front}
-use Rattle.tap_legal.specs.Numbered.{AnswerAt, Asked, OpAt, Told}
+use Rattle.tap_legal.specs.Numbered.{AnswerAt, Asked, OpAt}
 use Rattle.tap_legal.specs.Case.{Case, fails_each, of_answer}
 use Rattle.tap_legal.specs.Lookups.{asked_at, attaches_it, ends_it, is_own_next, table_at}
 

@@ -1,14 +1,13 @@
 -- This project's own, clause a of a legal trace: operations, refusals by the table, and learnings.
-use Rattle.std.specs.Prelude.{ℕ, zero, suc, ◌+◌, ◌-◌, ◌==◌, ◌&&◌, ◌||◌, not, nat_lt, nat_le, if◌then◌else◌, Bool, true, false, List, [], ◌∷◌, ◌++◌, length, map, filter, flat_map, option_map, is_some, is_none, Option, Some, None}
+use Rattle.std.specs.Prelude.{ℕ, zero, suc, ◌+◌, ◌-◌, ◌==◌, ◌&&◌, ◌||◌, not, nat_le, if◌then◌else◌, Bool, true, false, List, [], ◌∷◌, ◌++◌, length, map, filter, flat_map, option_map, is_none, Option, Some, None}
 use Rattle.std.specs.List.{list_any, list_all}
 use Rattle.std.specs.Option.{option_map_or}
 use Rattle.tap_flow_key.specs.FlowKey.{hash}
 use Rattle.tap_ledger.specs.declared.side.Side.{Side}
 use Rattle.tap_ledger.specs.declared.side.Side.TheVariants.{Rx, Tx}
-use Rattle.tap_steer.specs.declared.error.TapErr.{TapErr}
 use Rattle.tap_steer.specs.declared.operation.Op.{Op}
 use Rattle.tap_steer.specs.declared.operation.Op.TheVariants as op
-use Rattle.tap_steer.specs.Table.{Table, file_at}
+use Rattle.tap_steer.specs.Table.{file_at}
 use Rattle.tap_steer.specs.Rules.{backer, refuse}
 use Rattle.tap_steer.specs.Select.{learns, shape_of}
 use Rattle.scen_words.specs.declared.command.Command.{Command}
@@ -19,11 +18,11 @@ use Rattle.tap_trace.specs.declared.causes.TapText.{TapText}
 use Rattle.tap_world.specs.Causes.{tap_text}
 use Rattle.tap_world.specs.Frames.{Front, bad_in, ether_in}
 use Rattle.tap_world.specs.Setup.{op_of}
-use Rattle.tap_legal.specs.Numbered.{AnswerAt, Asked, OpAt, Told}
+use Rattle.tap_legal.specs.Numbered.{AnswerAt, Asked, OpAt}
 use Rattle.tap_legal.specs.Same.{same_op, same_refusal}
 use Rattle.tap_legal.specs.Case.{Case, fails_each, fails_order, of_answer, of_op}
 use Rattle.tap_legal.specs.Replays.{Replays, files_of, flows_of, was_replayed}
-use Rattle.tap_legal.specs.Lookups.{answer_of, asked_at, op_at, ops_of, seen_before, some_version, table_at}
+use Rattle.tap_legal.specs.Lookups.{answer_of, asked_at, ops_of, seen_before, some_version, table_at}
 
 -- ---- operations
 

@@ -1,21 +1,16 @@
 -- This project's own: the look-ups in a trace. Nothing else reads its lines a second time.
-use Rattle.std.specs.Prelude.{ℕ, zero, suc, ◌+◌, ◌-◌, ◌==◌, ◌&&◌, ◌||◌, not, nat_lt, nat_le, min, max, if◌then◌else◌, Bool, true, false, List, [], ◌∷◌, ◌++◌, length, map, filter, filter_map, find, flat_map, slice_get, slice_index_or, option_map, option_and_then, unwrap_or, is_some, is_none, Option, Some, None}
+use Rattle.std.specs.Prelude.{ℕ, zero, suc, ◌+◌, ◌-◌, ◌==◌, ◌&&◌, ◌||◌, not, nat_lt, nat_le, max, if◌then◌else◌, Bool, false, List, [], ◌∷◌, filter, find, slice_get, slice_index_or, option_map, Option, Some, None}
 use Rattle.std.specs.List.{list_any}
 use Rattle.std.specs.Option.{option_map_or}
 use Rattle.tap_frame.specs.declared.name.Name.{Name}
-use Rattle.tap_steer.specs.declared.files.Attachment.{Attachment}
-use Rattle.tap_steer.specs.declared.files.Attachment.TheVariants.{Enabled}
-use Rattle.tap_steer.specs.declared.operation.Op.{Op}
-use Rattle.tap_steer.specs.declared.operation.Op.TheVariants as op
 use Rattle.tap_steer.specs.Table.{Table, file_at}
 use Rattle.scen_words.specs.declared.command.Command.{Command}
 use Rattle.scen_words.specs.declared.command.Command.TheVariants as command
 use Rattle.tap_trace.specs.declared.answer.Answer.{Answer}
 use Rattle.tap_trace.specs.declared.answer.Answer.TheVariants as answer
-use Rattle.tap_trace.specs.declared.trace.PlaceLine.{PlaceLine}
-use Rattle.tap_world.specs.Then.{◌>>=◌, only_if}
+use Rattle.tap_world.specs.Then.{only_if}
 use Rattle.tap_world.specs.ByNumber.{at}
-use Rattle.tap_world.specs.Setup.{Declared, Setup, opening_table}
+use Rattle.tap_world.specs.Setup.{Declared, opening_table}
 use Rattle.tap_world.specs.StepTable.{is_enabled}
 use Rattle.tap_legal.specs.Numbered.{AnswerAt, Asked, EntryAt, FileAt, OpAt, Told}
 use Rattle.tap_legal.specs.Case.{Case}

@@ -1,17 +1,12 @@
 -- This project's own: the lines of a trace with their numbers, of which `taptrace 1` is the first; and the scenario
 -- that
 -- the trace is judged by.
-use Rattle.std.specs.Prelude.{ℕ, ◌+◌, ◌==◌, ◌&&◌, not, if◌then◌else◌, List, [], ◌∷◌, ◌++◌, length, map, flat_map, filter, Bool, Option, Some, None, slice_get, option_map, option_and_then}
-use Rattle.std.specs.List.{list_any}
-use Rattle.std.specs.Option.{option_map_or}
+use Rattle.std.specs.Prelude.{ℕ, ◌+◌, ◌==◌, ◌&&◌, if◌then◌else◌, List, [], ◌∷◌, ◌++◌, length, map, Bool, Option, Some, None, slice_get}
 use Rattle.tap_steer.specs.declared.operation.Op.{Op}
 use Rattle.tap_steer.specs.declared.operation.Op.TheVariants as op
-use Rattle.tap_steer.specs.Table.{Table}
-use Rattle.tap_steer.specs.After.{after}
 use Rattle.scen_words.specs.declared.command.Command.{Command}
 use Rattle.scen_text.specs.declared.scenario.Line.{Line}
 use Rattle.scen_text.specs.declared.scenario.Phase.{Phase}
-use Rattle.scen_text.specs.declared.scenario.Scenario.{Scenario}
 use Rattle.scen_text.specs.Before.{number_among}
 use Rattle.tap_trace.specs.declared.answer.Answer.{Answer}
 use Rattle.tap_trace.specs.declared.answer.Answer.TheVariants as answer
@@ -27,7 +22,7 @@ use Rattle.tap_trace.specs.declared.trace.PositionList.{PositionList}
 use Rattle.tap_trace.specs.declared.trace.RingPart.{RingPart}
 use Rattle.tap_trace.specs.declared.trace.StepLine.{StepLine}
 use Rattle.tap_trace.specs.declared.trace.Trace.{Trace}
-use Rattle.tap_world.specs.Setup.{Setup, op_of, opening_table, setup_of}
+use Rattle.tap_world.specs.Setup.{Setup, op_of}
 
 -- ---- commands
 

@@ -1,30 +1,18 @@
 -- This project's own, of clause g of a legal trace: the steps on a guest as one fold, from zeros, the first settings
 -- and
 -- no drivers. A turn is replayed by the steps of its worker; which frames it had in hand is read off the file's line.
-use Rattle.std.specs.Prelude.{ℕ, zero, suc, ◌+◌, ◌-◌, ◌^◌, ◌==◌, ◌&&◌, ◌||◌, not, nat_lt, nat_le, if◌then◌else◌, Bool, true, false, List, [], ◌∷◌, ◌++◌, length, map, filter, replicate, find, Option, Some, None, is_none, is_some, option_map, option_and_then}
-use Rattle.std.specs.List.{list_any}
+use Rattle.std.specs.Prelude.{ℕ, zero, suc, ◌-◌, ◌^◌, ◌==◌, if◌then◌else◌, Bool, true, false, List, [], ◌∷◌, ◌++◌, length, map, filter, Option, Some, None, is_none}
 use Rattle.std.specs.Option.{option_map_or}
 use Rattle.guest_mem.specs.Memory.{Contents, first_bad, written}
-use Rattle.guest_mem.specs.declared.region.Region.{Region}
 use Rattle.tap_frame.specs.declared.name.Name.{Name}
 use Rattle.tap_frame.specs.Frame.{FrameValue}
-use Rattle.tap_ledger.specs.declared.act.Act.{Act}
 use Rattle.tap_ledger.specs.declared.hand.Hand.{Hand}
 use Rattle.tap_ledger.specs.declared.hand.Hand.TheVariants as hand
-use Rattle.tap_ledger.specs.declared.fate.Fate.{Fate}
-use Rattle.tap_ledger.specs.declared.fate.Fate.TheVariants as fate
-use Rattle.tap_ledger.specs.declared.fate.Cause.{Cause}
-use Rattle.tap_ledger.specs.declared.fate.Cause.TheVariants as cause
 use Rattle.vhost_dev.specs.Calls.{with_backend, without_backend}
 use Rattle.vhost_dev.specs.Refusals.{ready_refusal}
-use Rattle.vhost_dev.specs.Settings.{hdr_of, ring_at}
-use Rattle.vring_turns.specs.declared.stage.RxStage.{RxStage}
-use Rattle.vring_turns.specs.declared.stage.RxStage.TheVariants as rx
-use Rattle.vring_turns.specs.declared.stage.TxStage.{TxStage}
-use Rattle.vring_turns.specs.declared.stage.TxStage.TheVariants as tx
-use Rattle.vring_turns.specs.ReceiveImage.{need_of}
+use Rattle.vhost_dev.specs.Settings.{ring_at}
 use Rattle.vring_turns.specs.RxTurn.{RxTurn, quota}
-use Rattle.vring_turns.specs.TxTurn.{TxState, TxTurn, tx_begun, tx_step}
+use Rattle.vring_turns.specs.TxTurn.{TxTurn}
 use Rattle.tap_steer.specs.Table.{Table}
 use Rattle.tap_steer.specs.Select.{shape_of}
 use Rattle.scen_words.specs.declared.command.Command.{Command}
@@ -34,21 +22,19 @@ use Rattle.tap_trace.specs.declared.answer.Answer.TheVariants as answer
 use Rattle.tap_trace.specs.declared.kind.Kind.{Kind}
 use Rattle.tap_trace.specs.declared.kind.Kind.TheVariants as kind
 use Rattle.tap_trace.specs.declared.turn.ChainText.{ChainText}
-use Rattle.tap_trace.specs.declared.turn.TurnText.{TurnText}
 use Rattle.tap_trace.specs.declared.turn.TurnText.TheVariants as text
 use Rattle.tap_world.specs.Then.{◌>>=◌, only_if}
 use Rattle.tap_world.specs.ByNumber.{at, with_at}
-use Rattle.tap_world.specs.Frames.{FrameText}
-use Rattle.tap_world.specs.Guests.{Vhost, new_vhost, turn_of, with_queue, with_turn}
+use Rattle.tap_world.specs.Guests.{Vhost, turn_of}
 use Rattle.tap_world.specs.Setup.{frame_of}
 use Rattle.tap_world.specs.World.{name_of}
 use Rattle.tap_world.specs.StepBackend.{back_answer, back_refusal, unfit_for}
 use Rattle.tap_world.specs.StepControl.{call_of, may_call, peeked}
 use Rattle.tap_world.specs.StepControl.{Call}
-use Rattle.tap_legal.specs.Numbered.{AnswerAt, Asked, EntryAt, StepAt}
+use Rattle.tap_legal.specs.Numbered.{AnswerAt, StepAt}
 use Rattle.tap_legal.specs.Codes.{same_answer, same_kind}
 use Rattle.tap_legal.specs.Case.{Case}
-use Rattle.tap_legal.specs.Lookups.{answer_of, asked_at, entry_named, table_at}
+use Rattle.tap_legal.specs.Lookups.{answer_of, entry_named, table_at}
 
 -- ---- the state of a replay
 

@@ -1,29 +1,22 @@
 -- This project's own, of clause g of a legal trace: the steps of turns in the fold. Between two steps on the guest a
 -- turn
 -- has steps on the file or the host alone, which aren't printed.
-use Rattle.std.specs.Prelude.{ℕ, ◌+◌, ◌-◌, ◌==◌, ◌&&◌, ◌||◌, not, nat_lt, nat_le, if◌then◌else◌, Bool, true, false, List, [], ◌∷◌, ◌++◌, length, map, filter, find, Option, Some, None, is_none, is_some, option_map, option_and_then, slice_get}
+use Rattle.std.specs.Prelude.{ℕ, ◌==◌, ◌&&◌, not, if◌then◌else◌, Bool, true, false, List, [], ◌∷◌, ◌++◌, length, filter, find, Option, Some, None, option_map, option_and_then}
 use Rattle.std.specs.List.{list_any}
 use Rattle.std.specs.Option.{option_map_or}
 use Rattle.guest_mem.specs.Memory.{Contents}
-use Rattle.guest_mem.specs.Regions.{zeroed}
-use Rattle.guest_mem.specs.declared.region.Region.{Region}
 use Rattle.tap_flow_key.specs.FlowKey.{hash}
 use Rattle.tap_frame.specs.Frame.{FrameValue}
 use Rattle.tap_ledger.specs.declared.act.Act.{Act}
 use Rattle.tap_ledger.specs.declared.act.Act.TheVariants as act
 use Rattle.tap_ledger.specs.declared.hand.Hand.{Hand}
 use Rattle.tap_ledger.specs.declared.hand.Hand.TheVariants as hand
-use Rattle.tap_ledger.specs.declared.fate.Fate.{Fate}
-use Rattle.tap_ledger.specs.declared.fate.Fate.TheVariants as fate
-use Rattle.tap_ledger.specs.declared.fate.Cause.TheVariants as cause
 use Rattle.vhost_queue.specs.Queue.{Queue}
 use Rattle.vhost_dev.specs.Settings.{hdr_of}
-use Rattle.vring_turns.specs.declared.end.End.{End}
 use Rattle.vring_turns.specs.declared.stage.RxStage.{RxStage}
 use Rattle.vring_turns.specs.declared.stage.RxStage.TheVariants as rx
 use Rattle.vring_turns.specs.declared.stage.TxStage.{TxStage}
 use Rattle.vring_turns.specs.declared.stage.TxStage.TheVariants as tx
-use Rattle.vring_turns.specs.ReceiveImage.{need_of}
 use Rattle.vring_turns.specs.RxTurn.{RxState, RxTurn, quota, rx_begun, rx_step}
 use Rattle.vring_turns.specs.TxTurn.{TxState, TxTurn, tx_begun, tx_step}
 use Rattle.scen_words.specs.declared.command.Command.{Command}
@@ -32,13 +25,13 @@ use Rattle.tap_trace.specs.declared.answer.Answer.TheVariants as answer
 use Rattle.tap_trace.specs.declared.kind.Kind.{Kind}
 use Rattle.tap_trace.specs.declared.turn.ChainText.{ChainText}
 use Rattle.tap_trace.specs.declared.turn.TurnText.{TurnText}
-use Rattle.tap_world.specs.Then.{◌>>=◌, only_if}
+use Rattle.tap_world.specs.Then.{◌>>=◌}
 use Rattle.tap_world.specs.ByNumber.{at, with_at}
-use Rattle.tap_world.specs.Guests.{Vhost, new_vhost, with_queue, with_turn}
+use Rattle.tap_world.specs.Guests.{Vhost, with_queue, with_turn}
 use Rattle.tap_world.specs.World.{name_of}
 use Rattle.tap_world.specs.StepTurns.{end_told, is_off, kind_of, rx_over, rx_state, turn_on}
 use Rattle.tap_world.specs.StepTransmits.{chains_after, tx_over, tx_state}
-use Rattle.tap_legal.specs.Numbered.{AnswerAt, Asked, EntryAt, StepAt}
+use Rattle.tap_legal.specs.Numbered.{AnswerAt, Asked, StepAt}
 use Rattle.tap_legal.specs.Case.{Case}
 use Rattle.tap_legal.specs.Lookups.{answer_of, asked_at}
 use Rattle.tap_legal.specs.Replay.{Accepted, Packet, Replay, Turning, Under, ahead, answers, broken_at, hand_for, if_step, replay_back, replay_bytes, replay_call}

@@ -1,5 +1,5 @@
 -- This project's own: when operations, refusals and bad frames are the same.
-use Rattle.std.specs.Prelude.{ℕ, ◌==◌, ◌&&◌, ◌||◌, not, if◌then◌else◌, Bool, true, false, List, [], ◌∷◌, Option, Some, None}
+use Rattle.std.specs.Prelude.{ℕ, ◌==◌, ◌&&◌, not, Bool, true, false, Option, Some, None}
 use Rattle.std.specs.Option.{option_map_or}
 use Rattle.tap_frame.specs.declared.reading.BadFrame.{BadFrame}
 use Rattle.tap_frame.specs.declared.reading.BadFrame.TheVariants.{ShortPi, ShortHdr, HdrBeyond, ShortEther, HdrShort, TooLong, NoMemory}

@@ -5,7 +5,6 @@ use Rattle.tap_steer.specs.declared.operation.Op.{Op}
 use Rattle.tap_trace.specs.declared.answer.Answer.{Answer}
 use Rattle.tap_trace.specs.declared.answer.Answer.TheVariants as answer
 use Rattle.tap_trace.specs.declared.kind.Kind.{Kind}
-use Rattle.tap_trace.specs.declared.trace.StepLine.{StepLine}
 use Rattle.guest_mem.specs.Memory.{Contents}
 use Rattle.tap_world.specs.declared.event.Found.{Found}
 use Rattle.tap_world.specs.declared.event.Heard.{Heard}
@@ -15,7 +14,7 @@ use Rattle.tap_world.specs.ByNumber.{at, with_at, with_nth}
 use Rattle.tap_world.specs.Line.{File, is_empty}
 use Rattle.tap_world.specs.LineSteps.{Change, changed}
 use Rattle.tap_world.specs.Guests.{Guest, Vhost}
-use Rattle.tap_world.specs.World.{Actor, Doing, Published, Said, World}
+use Rattle.tap_world.specs.World.{Actor, Doing, Said, World}
 use Rattle.tap_world.specs.World.Doing.{Begun, Purges}
 
 -- no file changes, or one does

@@ -18,8 +18,7 @@ use Rattle.tap_trace.specs.declared.trace.Trace.{Trace}
 use Rattle.tap_world.specs.declared.event.Event.{Event}
 use Rattle.tap_world.specs.declared.event.EventKind.{EventKind}
 use Rattle.tap_world.specs.declared.event.EventKind.TheVariants as event
-use Rattle.tap_world.specs.Setup.{Setup, setup_of}
-use Rattle.tap_world.specs.World.{World}
+use Rattle.tap_world.specs.Setup.{setup_of}
 use Rattle.tap_world.specs.Runs.{opening, run_phases}
 use Rattle.tap_world.specs.Project.{project}
 

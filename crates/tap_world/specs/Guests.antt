@@ -1,5 +1,5 @@
 -- This project's own: guests, and the vhosts over their memory.
-use Rattle.std.specs.Prelude.{ℕ, ◌==◌, ◌&&◌, ◌||◌, not, nat_lt, Bool, true, false, if◌then◌else◌, List, [], ◌∷◌, length, Option, Some, None, is_none}
+use Rattle.std.specs.Prelude.{ℕ, ◌==◌, ◌||◌, not, nat_lt, Bool, true, if◌then◌else◌, List, [], Option, Some, None, is_none}
 use Rattle.std.specs.Option.{option_map_or}
 use Rattle.guest_mem.specs.Memory.{Contents}
 use Rattle.guest_mem.specs.Regions.{zeroed}
@@ -7,7 +7,7 @@ use Rattle.guest_mem.specs.declared.region.Region.{Region}
 use Rattle.vhost_queue.specs.Queue.{Queue}
 use Rattle.vhost_dev.specs.declared.error.VhostErr.{VhostErr}
 use Rattle.vhost_dev.specs.declared.error.VhostErr.TheVariants as err
-use Rattle.vhost_dev.specs.Settings.{RingSettings, Settings, first_settings, ring_at, with_ring}
+use Rattle.vhost_dev.specs.Settings.{Settings, first_settings, ring_at, with_ring}
 use Rattle.vring_drive.specs.Books.{Books}
 use Rattle.tap_trace.specs.declared.causes.VhostText.{VhostText}
 use Rattle.tap_trace.specs.declared.causes.VhostText.TheVariants as text

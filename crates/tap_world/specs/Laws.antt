@@ -1,17 +1,16 @@
 -- This project's own: what the definitions of the world mean.
-use Rattle.std.specs.Prelude.{◌≡◌, ℕ, ◌+◌, ◌-◌, ◌<◌, ◌≤◌, ◌⊎◌, ◌↔◌, true, List, length, map, drop, take, get_or, slice_get, Some}
+use Rattle.std.specs.Prelude.{◌≡◌, ℕ, ◌<◌, ◌≤◌, ◌⊎◌, ◌↔◌, true, List, slice_get, Some}
 use Rattle.tap_frame.specs.declared.name.Name.{Name}
 use Rattle.tap_frame.specs.declared.shape.Shape.{Shape}
 use Rattle.tap_frame.specs.Spelling.{first_case}
 use Rattle.tap_frame.specs.Text.{text}
 use Rattle.tap_ledger.specs.declared.fate.Fate.{Fate}
 use Rattle.tap_steer.specs.Select.{parts_of}
-use Rattle.vhost_queue.specs.Positions.{IsInOrder, Positions, after}
 use Rattle.scen_text.specs.declared.scenario.Scenario.{Scenario}
 use Rattle.tap_world.specs.declared.event.Event.{Event}
 use Rattle.tap_world.specs.Frames.{FrameText, bad_in, text_in}
 use Rattle.tap_world.specs.Setup.{Setup}
-use Rattle.tap_world.specs.Line.{Entry, Standing}
+use Rattle.tap_world.specs.Line.{Entry}
 use Rattle.tap_world.specs.Line.Standing.{Out}
 use Rattle.tap_world.specs.World.{World}
 use Rattle.tap_world.specs.Runs.{IsOrder}

@@ -1,12 +1,9 @@
 -- This project's own: what holds in every world that a run can reach, in ten parts, each of what it names.
-use Rattle.std.specs.Prelude.{◌≡◌, ℕ, ◌+◌, ◌-◌, ◌^◌, ◌<◌, ◌≤◌, ◌⊎◌, ◌↔◌, ◌==◌, ◌&&◌, max, not, Bool, true, false, if◌then◌else◌, List, [], ◌∷◌, ◌++◌, length, map, take, drop, slice_get, Option, Some, None, is_some, IsTrue, option_map}
+use Rattle.std.specs.Prelude.{◌≡◌, ℕ, ◌+◌, ◌-◌, ◌^◌, ◌≤◌, ◌⊎◌, ◌↔◌, ◌==◌, ◌&&◌, max, not, Bool, true, false, if◌then◌else◌, List, [], ◌∷◌, map, take, drop, slice_get, Option, Some, None, is_some}
 use Rattle.std.specs.Option.{option_map_or}
 use Rattle.std.specs.List.{AllByRecursion, list_any}
 use Rattle.tap_frame.specs.declared.name.Name.{Name}
-use Rattle.tap_frame.specs.Frame.{FrameValue}
-use Rattle.tap_ledger.specs.declared.fate.Fate.{Fate}
 use Rattle.tap_ledger.specs.declared.fate.Fate.TheVariants as fate
-use Rattle.tap_ledger.specs.declared.side.Side.TheVariants.{Rx, Tx}
 use Rattle.tap_steer.specs.Table.{Table, file_at}
 use Rattle.vhost_queue.specs.Positions.{IsInOrder, Positions, positions_from}
 use Rattle.vhost_queue.specs.Queue.{IsGood, IsQueueSize}
@@ -15,14 +12,14 @@ use Rattle.tap_trace.specs.declared.answer.Answer.{Answer}
 use Rattle.tap_trace.specs.declared.answer.Answer.TheVariants as answer
 use Rattle.tap_trace.specs.declared.turn.ChainText.{ChainText}
 use Rattle.tap_trace.specs.declared.turn.ChainText.TheVariants as chain
-use Rattle.tap_world.specs.ByNumber.{at, numbered}
+use Rattle.tap_world.specs.ByNumber.{at}
 use Rattle.tap_world.specs.Guests.{Guest, Vhost}
 use Rattle.tap_world.specs.Setup.{Setup}
 use Rattle.tap_world.specs.StepTable.{is_enabled}
-use Rattle.tap_world.specs.Line.{Entry, File, Standing, claimed, count, first_that, freed, in_batch, in_ring, is_empty, is_kept}
+use Rattle.tap_world.specs.Line.{Entry, File, Standing, claimed, count, first_that, freed, in_batch, is_empty, is_kept}
 use Rattle.tap_world.specs.Line.Standing.{Batched, Claimed, Cut, Out, Ready}
 use Rattle.tap_world.specs.World.{Actor, Doing, Said, World, name_of, newest, table}
-use Rattle.tap_world.specs.World.Doing.{Backed, Backs, Begun, Changes, Disowned, Given, Hosts, Learns, Opened, Opens, Owns, Placed, Purges, Reads, Receives, Released, Resizes, Routed, Shrinks, Teaches, Transmits, Unbacked, Withdrawn, Withdraws}
+use Rattle.tap_world.specs.World.Doing.{Backed, Backs, Begun, Changes, Disowned, Opened, Opens, Owns, Placed, Purges, Receives, Released, Resizes, Shrinks, Unbacked, Withdrawn, Withdraws}
 
 -- ---- each file, each vhost, each actor
 

@@ -1,13 +1,13 @@
 -- This project's own: what one event does to the world; none where it isn't allowed.
-use Rattle.std.specs.Prelude.{ℕ, ◌==◌, ◌&&◌, Bool, if◌then◌else◌, List, slice_get, Option, Some, None, is_some}
+use Rattle.std.specs.Prelude.{ℕ, ◌==◌, ◌&&◌, Bool, if◌then◌else◌, slice_get, Option, Some, None, is_some}
 use Rattle.scen_words.specs.declared.command.Command.{Command}
 use Rattle.scen_words.specs.declared.command.Command.TheVariants as command
 use Rattle.tap_world.specs.declared.event.Event.{Event}
 use Rattle.tap_world.specs.declared.event.EventKind.{EventKind}
 use Rattle.tap_world.specs.declared.event.EventKind.TheVariants as event
 use Rattle.tap_world.specs.declared.event.Heard.{Heard}
-use Rattle.tap_world.specs.Then.{◌>>=◌, only_if}
-use Rattle.tap_world.specs.Setup.{Numbered, Setup}
+use Rattle.tap_world.specs.Then.{◌>>=◌}
+use Rattle.tap_world.specs.Setup.{Setup}
 use Rattle.tap_world.specs.World.{Actor, Doing, World, current, table}
 use Rattle.tap_world.specs.World.Doing.{Begun}
 use Rattle.tap_world.specs.StepControl.{calls, pokes}

@@ -1,33 +1,22 @@
 -- This project's own: how a backend is set and unset: its Look, its Drive, its publication, and the owner of its file.
-use Rattle.std.specs.Prelude.{ℕ, ◌+◌, ◌==◌, ◌&&◌, ◌||◌, not, Bool, true, false, if◌then◌else◌, List, [], ◌∷◌, ◌++◌, length, Option, Some, None, is_none, is_some, option_map, unwrap_or}
+use Rattle.std.specs.Prelude.{ℕ, ◌+◌, ◌==◌, ◌&&◌, ◌||◌, not, true, false, if◌then◌else◌, [], ◌∷◌, Option, Some, None, is_none, option_map}
 use Rattle.std.specs.Option.{option_map_or}
-use Rattle.guest_mem.specs.Memory.{Contents, bytes_from, first_bad, written}
+use Rattle.guest_mem.specs.Memory.{Contents}
 use Rattle.tap_ledger.specs.declared.side.Side.{Side}
 use Rattle.tap_ledger.specs.declared.side.Side.TheVariants.{Rx, Tx}
-use Rattle.tap_steer.specs.declared.error.TapErr.{TapErr}
 use Rattle.tap_steer.specs.declared.operation.Op.{Op}
 use Rattle.tap_steer.specs.declared.operation.Op.TheVariants as op
 use Rattle.tap_steer.specs.Table.{Table}
 use Rattle.tap_steer.specs.Rules.{refuse}
 use Rattle.tap_steer.specs.Select.{shape_of}
 use Rattle.vhost_dev.specs.declared.error.VhostErr.{VhostErr}
-use Rattle.vhost_dev.specs.Calls.{chosen, with_addr, with_backend, with_base, with_features, with_num, without_backend}
-use Rattle.vhost_dev.specs.Refusals.{addr_refusal, base_refusal, features_refusal, fits_refusal, num_refusal, number_refusal, ready_refusal}
+use Rattle.vhost_dev.specs.Calls.{with_backend, without_backend}
+use Rattle.vhost_dev.specs.Refusals.{fits_refusal, number_refusal, ready_refusal}
 use Rattle.vhost_dev.specs.Settings.{Settings, ring_at}
-use Rattle.vring_drive.specs.declared.error.DriveErr.{DriveErr}
-use Rattle.vring_drive.specs.declared.error.DriveErr.TheVariants as drive_err
-use Rattle.vring_drive.specs.declared.error.PostErr.{PostErr}
-use Rattle.vring_drive.specs.declared.error.PostErr.TheVariants as post_err
-use Rattle.vring_drive.specs.Area.{drive_refusal}
-use Rattle.vring_drive.specs.Books.{Books, chain_of, first_books, head_of, sent_out}
-use Rattle.vring_drive.specs.Harvests.{Harvest, harvested, harvested_in}
-use Rattle.vring_drive.specs.Posts.{full_pieces, post_in_refusal, post_out_refusal, posted_in, posted_out}
 use Rattle.scen_words.specs.declared.command.Command.{Command}
 use Rattle.scen_words.specs.declared.command.Command.TheVariants as command
 use Rattle.tap_trace.specs.declared.answer.Answer.{Answer}
 use Rattle.tap_trace.specs.declared.answer.Answer.TheVariants as answer
-use Rattle.tap_trace.specs.declared.causes.DriveText.{DriveText}
-use Rattle.tap_trace.specs.declared.causes.DriveText.TheVariants as drive_text
 use Rattle.tap_trace.specs.declared.causes.TapText.{TapText}
 use Rattle.tap_trace.specs.declared.kind.Kind.{Kind}
 use Rattle.tap_trace.specs.declared.kind.Kind.TheVariants as kind
@@ -36,12 +25,12 @@ use Rattle.tap_world.specs.Then.{◌>>=◌, only_if}
 use Rattle.tap_world.specs.ByNumber.{at}
 use Rattle.tap_world.specs.Causes.{tap_text}
 use Rattle.tap_world.specs.Frames.{Front}
-use Rattle.tap_world.specs.Guests.{Guest, Vhost, driver_of, is_free_for, is_ring, turn_of, vhost_text, with_driver, with_turn}
+use Rattle.tap_world.specs.Guests.{Vhost, is_free_for, is_ring, turn_of, vhost_text, with_turn}
 use Rattle.tap_world.specs.Setup.{Setup}
 use Rattle.tap_world.specs.LineSteps.Change.{Owned}
 use Rattle.tap_world.specs.World.{Doing, World, newest, table}
 use Rattle.tap_world.specs.World.Doing.{Backed, Backs, Disowned, Owns, Released, Unbacked}
-use Rattle.tap_world.specs.Effect.{Effect, Onward, on_file, only}
+use Rattle.tap_world.specs.Effect.{Effect, on_file, only}
 use Rattle.tap_world.specs.Effect.OnGuests.{NoGuest, OnGuest}
 use Rattle.tap_world.specs.Effect.OnVhosts.{NoVhost, OnVhost}
 use Rattle.tap_world.specs.Effect.Onward.{Ends, Goes}

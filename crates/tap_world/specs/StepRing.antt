@@ -1,23 +1,22 @@
 -- This project's own: the events of rings, files and the host. Each row is what the event changes, and none where its
 -- condition doesn't hold; the condition of a file's change stands with the change.
-use Rattle.std.specs.Prelude.{ℕ, ◌+◌, ◌&&◌, Bool, true, false, List, [], ◌∷◌, length, take, Option, Some, None, is_none, is_some, slice_get, unwrap_or, if◌then◌else◌}
+use Rattle.std.specs.Prelude.{ℕ, ◌+◌, ◌&&◌, true, false, List, [], ◌∷◌, length, Option, Some, None, is_none, is_some, slice_get, if◌then◌else◌}
 use Rattle.std.specs.Option.{option_map_or}
 use Rattle.tap_flow_key.specs.Fnv.{fnv_of}
 use Rattle.tap_frame.specs.declared.name.Name.{Name}
 use Rattle.tap_ledger.specs.declared.fate.Cause.{Cause}
 use Rattle.tap_ledger.specs.declared.fate.Cause.TheVariants as cause
-use Rattle.tap_ledger.specs.declared.fate.Fate.{Fate}
 use Rattle.tap_ledger.specs.declared.fate.Fate.TheVariants as fate
 use Rattle.tap_trace.specs.declared.answer.Answer.TheVariants as answer
 use Rattle.tap_world.specs.declared.event.Found.TheVariants as found
 use Rattle.tap_world.specs.Then.{◌>>=◌, only_if}
 use Rattle.tap_world.specs.ByNumber.{at}
-use Rattle.tap_world.specs.Frames.{FrameText, Front, text_in}
+use Rattle.tap_world.specs.Frames.{Front, text_in}
 use Rattle.tap_world.specs.Setup.{Setup, frame_of}
-use Rattle.tap_world.specs.Line.{Entry, File, claimed, first_that, freed, front_place, has_batch, in_batch, in_ring, is_full, is_gone, is_over, is_spent, last_that}
+use Rattle.tap_world.specs.Line.{Entry, File, claimed, first_that, freed, front_place, in_batch, in_ring, is_full, is_gone, is_spent, last_that}
 use Rattle.tap_world.specs.LineSteps.{ready_front}
 use Rattle.tap_world.specs.LineSteps.Change.{Claims, Cuts, Leaves, Moves, Puts, Reopens, Shuts, Sizes}
-use Rattle.tap_world.specs.World.{Actor, Doing, World, holds_writer, name_of}
+use Rattle.tap_world.specs.World.{Doing, World, holds_writer, name_of}
 use Rattle.tap_world.specs.World.Doing.{Hosts, Learns, Opened, Opens, Placed, Purges, Reads, Resizes, Routed, Shrinks, Withdrawn}
 use Rattle.tap_world.specs.Effect.{Effect, Onward, on_file, only}
 use Rattle.tap_world.specs.Effect.Onward.{Ends, Goes, Stays}

@@ -1,6 +1,6 @@
 -- This project's own: the events of the queue table, Look and Publish. Each row is what the event changes, and none
 -- where its condition doesn't hold.
-use Rattle.std.specs.Prelude.{ℕ, ◌+◌, ◌==◌, ◌&&◌, ◌||◌, nat_lt, Bool, true, false, if◌then◌else◌, List, [], ◌∷◌, length, Option, Some, None, is_none}
+use Rattle.std.specs.Prelude.{ℕ, ◌+◌, ◌&&◌, nat_lt, Bool, true, false, if◌then◌else◌, List, [], ◌∷◌, length, Option, Some, None, is_none}
 use Rattle.std.specs.Option.{option_map_or}
 use Rattle.tap_flow_key.specs.Fnv.{fnv_of}
 use Rattle.tap_flow_key.specs.FlowKey.{hash}
@@ -10,7 +10,7 @@ use Rattle.tap_ledger.specs.declared.fate.Cause.TheVariants as cause
 use Rattle.tap_queues.specs.declared.queues.Row.{Row}
 use Rattle.tap_steer.specs.declared.error.TapErr.{TapErr}
 use Rattle.tap_steer.specs.declared.files.Attachment.{Attachment}
-use Rattle.tap_steer.specs.declared.files.Attachment.TheVariants.{Unattached, Enabled, Disabled}
+use Rattle.tap_steer.specs.declared.files.Attachment.TheVariants.{Enabled}
 use Rattle.tap_steer.specs.declared.operation.Op.{Op}
 use Rattle.tap_steer.specs.declared.operation.Op.TheVariants as op
 use Rattle.tap_steer.specs.declared.operation.TheConstants.{IFF_ATTACH_QUEUE}
@@ -27,11 +27,11 @@ use Rattle.tap_world.specs.declared.event.Found.TheVariants as found
 use Rattle.tap_world.specs.Then.{◌>>=◌, only_if}
 use Rattle.tap_world.specs.ByNumber.{at}
 use Rattle.tap_world.specs.Causes.{tap_text}
-use Rattle.tap_world.specs.Frames.{FrameText, Front, bad_in, ether_in, frame_in, least_in, sent_bytes, sent_front}
+use Rattle.tap_world.specs.Frames.{Front, bad_in, ether_in, least_in, sent_bytes, sent_front}
 use Rattle.tap_world.specs.Setup.{Setup, op_of}
-use Rattle.tap_world.specs.Line.{File, claimed, freed, is_over}
+use Rattle.tap_world.specs.Line.{File, freed}
 use Rattle.tap_world.specs.World.{Actor, Doing, World, holds_writer, name_of, newest, table}
-use Rattle.tap_world.specs.World.Doing.{Begun, Changes, Hosts, Learns, Opened, Opens, Reads, Resizes, Routed, Shrinks, Withdrawn, Withdraws}
+use Rattle.tap_world.specs.World.Doing.{Changes, Hosts, Learns, Opened, Opens, Reads, Resizes, Routed, Shrinks, Withdrawn, Withdraws}
 use Rattle.tap_world.specs.Effect.{Effect, Onward, only}
 use Rattle.tap_world.specs.Effect.Onward.{Ends, Goes}
 

@@ -1,56 +1,32 @@
 -- This project's own: the events of a transmit worker's turns, and the rows that the turns of both workers have.
-use Rattle.std.specs.Prelude.{ℕ, ◌+◌, ◌==◌, ◌&&◌, Bool, true, false, if◌then◌else◌, List, [], ◌∷◌, ◌++◌, length, Option, Some, None, is_none, is_some, slice_get, option_map}
-use Rattle.std.specs.Option.{option_map_or}
+use Rattle.std.specs.Prelude.{ℕ, ◌+◌, ◌==◌, ◌&&◌, if◌then◌else◌, List, [], ◌∷◌, ◌++◌, Option, Some, None, is_none, is_some}
 use Rattle.guest_mem.specs.Memory.{Contents}
 use Rattle.tap_flow_key.specs.Fnv.{fnv_of}
 use Rattle.tap_flow_key.specs.FlowKey.{hash}
-use Rattle.tap_frame.specs.declared.name.Name.{Name}
-use Rattle.tap_frame.specs.Frame.{FrameValue, bytes_of}
+use Rattle.tap_frame.specs.Frame.{FrameValue}
 use Rattle.tap_ledger.specs.declared.act.Act.{Act}
 use Rattle.tap_ledger.specs.declared.act.Act.TheVariants as act
-use Rattle.tap_ledger.specs.declared.fate.Fate.{Fate}
-use Rattle.tap_ledger.specs.declared.fate.Fate.TheVariants as fate
-use Rattle.tap_ledger.specs.declared.hand.Hand.{Hand}
-use Rattle.tap_ledger.specs.declared.hand.Hand.TheVariants as hand
 use Rattle.tap_steer.specs.declared.operation.Op.TheVariants as op
 use Rattle.tap_steer.specs.Select.{learns}
-use Rattle.vring_split.specs.declared.fault.RingFault.{RingFault}
-use Rattle.vring_split.specs.Split.{number_of_fault}
-use Rattle.vhost_queue.specs.Queue.{Queue}
-use Rattle.vhost_dev.specs.Settings.{hdr_of, ring_at}
+use Rattle.vhost_dev.specs.Settings.{hdr_of}
 use Rattle.vring_turns.specs.declared.end.End.{End}
-use Rattle.vring_turns.specs.declared.end.End.TheVariants as end
-use Rattle.vring_turns.specs.declared.stage.RxStage.{RxStage}
-use Rattle.vring_turns.specs.declared.stage.RxStage.TheVariants as rx
 use Rattle.vring_turns.specs.declared.stage.TxStage.{TxStage}
 use Rattle.vring_turns.specs.declared.stage.TxStage.TheVariants as tx
-use Rattle.vring_turns.specs.ReceiveImage.{need_of}
-use Rattle.vring_turns.specs.RxTurn.{RxState, RxTurn, overrun, rx_begun, rx_step}
 use Rattle.vring_turns.specs.TxTurn.{TxState, TxTurn, tx_begun, tx_step}
 use Rattle.scen_words.specs.declared.command.Command.{Command}
-use Rattle.scen_words.specs.declared.command.Command.TheVariants as command
-use Rattle.tap_trace.specs.declared.answer.Answer.{Answer}
 use Rattle.tap_trace.specs.declared.answer.Answer.TheVariants as answer
 use Rattle.tap_trace.specs.declared.kind.Kind.{Kind}
-use Rattle.tap_trace.specs.declared.kind.Kind.TheVariants as kind
 use Rattle.tap_trace.specs.declared.turn.ChainText.{ChainText}
 use Rattle.tap_trace.specs.declared.turn.ChainText.TheVariants as chain
-use Rattle.tap_trace.specs.declared.turn.TurnText.{TurnText}
-use Rattle.tap_trace.specs.declared.turn.TurnText.TheVariants as text
 use Rattle.tap_world.specs.declared.event.Found.{Found}
 use Rattle.tap_world.specs.declared.event.Found.TheVariants as found
 use Rattle.tap_world.specs.Then.{◌>>=◌, only_if}
 use Rattle.tap_world.specs.ByNumber.{at}
-use Rattle.tap_world.specs.Frames.{FrameText}
-use Rattle.tap_world.specs.Guests.{Guest, Vhost, is_free, turn_of, with_queue, with_turn}
-use Rattle.tap_world.specs.Setup.{Setup, frame_of}
-use Rattle.tap_world.specs.Line.{Entry, File, first_that, front_place, in_batch}
-use Rattle.tap_world.specs.LineSteps.{changed, ready_front}
-use Rattle.tap_world.specs.LineSteps.Change.{Leaves, PutsBack, Takes}
+use Rattle.tap_world.specs.Guests.{Vhost, is_free}
+use Rattle.tap_world.specs.Setup.{Setup}
 use Rattle.tap_world.specs.World.{Doing, World, name_of, newest, table}
 use Rattle.tap_world.specs.World.Doing.{Begun, Given, Receives, Teaches, Transmits}
-use Rattle.tap_world.specs.Effect.{Effect, OnFiles, Onward, only}
-use Rattle.tap_world.specs.Effect.OnFiles.{NoFile, OnFile}
+use Rattle.tap_world.specs.Effect.{Effect, Onward, only}
 use Rattle.tap_world.specs.Effect.OnGuests.{OnGuest}
 use Rattle.tap_world.specs.Effect.OnVhosts.{OnVhost}
 use Rattle.tap_world.specs.Effect.Onward.{Ends, Goes}

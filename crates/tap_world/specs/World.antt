@@ -1,5 +1,5 @@
 -- This project's own: what a world holds while a scenario runs.
-use Rattle.std.specs.Prelude.{ℕ, ◌==◌, List, [], ◌∷◌, length, map, take, slice_get, Bool, false, Option, Some, None, option_map}
+use Rattle.std.specs.Prelude.{ℕ, ◌==◌, List, length, map, take, slice_get, Bool, false, Option}
 use Rattle.std.specs.Option.{option_map_or}
 use Rattle.tap_frame.specs.declared.name.Name.{Name}
 use Rattle.tap_steer.specs.declared.operation.Op.{Op}
@@ -11,8 +11,6 @@ use Rattle.tap_trace.specs.declared.turn.ChainText.{ChainText}
 use Rattle.tap_trace.specs.declared.trace.AnswerLine.{AnswerLine}
 use Rattle.vring_turns.specs.RxTurn.{RxTurn}
 use Rattle.vring_turns.specs.TxTurn.{TxTurn}
-use Rattle.tap_world.specs.Then.{◌>>=◌}
-use Rattle.tap_world.specs.ByNumber.{at}
 use Rattle.tap_world.specs.Frames.{Front}
 use Rattle.tap_world.specs.Setup.{Numbered, Setup, opening_table}
 use Rattle.tap_world.specs.Line.{File}
