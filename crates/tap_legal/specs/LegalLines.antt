@@ -68,8 +68,7 @@ abbrev pub gone_in : FileAt → ℕ
 gone_in f = length (filter (λ (l : PlaceLine). not (waits l.fate)) f.part.lines)
 
 -- CLAIMED is first plus the number of entries. FREED is at most CLAIMED, at least CLAIMED minus the file's last
--- capacity,
--- and first plus the entries out and cut plus 0 to 64.
+-- capacity, and first plus the entries out and cut plus 0 to 64.
 abbrev pub numbers_fit : Case → FileAt → Declared → Bool
 numbers_fit c f d =
     f.part.claimed == d.first + length f.part.lines

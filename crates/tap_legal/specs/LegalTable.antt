@@ -161,8 +161,7 @@ abbrev pub learnt_by : Case → ℕ → List OpAt
 learnt_by c command = filter (λ (o : OpAt). is_learning o.op) (ops_of c command)
 
 -- A frame has one only where its file learns at a version from what was seen before up to SEEN, and lacks one only
--- where
--- it doesn't at such a version.
+-- where it doesn't at such a version.
 abbrev pub may_learn_on : Case → AnswerAt → ℕ → ℕ → ℕ → Bool
 may_learn_on c a frames learnt file =
     (learnt == 0 || some_version (seen_before c a.told) a.seen (λ v. learns (table_at c v) file))

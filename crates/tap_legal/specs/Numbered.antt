@@ -1,6 +1,5 @@
 -- This project's own: the lines of a trace with their numbers, of which `taptrace 1` is the first; and the scenario
--- that
--- the trace is judged by.
+-- that the trace is judged by.
 use Rattle.std.specs.Prelude.{ℕ, ◌+◌, ◌==◌, ◌&&◌, if◌then◌else◌, List, [], ◌∷◌, ◌++◌, length, map, Bool, Option, Some, None, slice_get}
 use Rattle.tap_steer.specs.declared.operation.Op.{Op}
 use Rattle.tap_steer.specs.declared.operation.Op.TheVariants as op

@@ -1,6 +1,6 @@
 -- This project's own, of clause g of a legal trace: the steps on a guest as one fold, from zeros, the first settings
--- and
--- no drivers. A turn is replayed by the steps of its worker; which frames it had in hand is read off the file's line.
+-- and no drivers. A turn is replayed by the steps of its worker; which frames it had in hand is read off the file's
+-- line.
 use Rattle.std.specs.Prelude.{ℕ, zero, suc, ◌-◌, ◌^◌, ◌==◌, if◌then◌else◌, Bool, true, false, List, [], ◌∷◌, ◌++◌, length, map, filter, Option, Some, None, is_none}
 use Rattle.std.specs.Option.{option_map_or}
 use Rattle.guest_mem.specs.Memory.{Contents, first_bad, written}
@@ -55,8 +55,7 @@ pub record Accepted : Type 0 where
   pub flow : ℕ
 
 -- a packet of a receive turn on a file: the frame that was copied, or an overrun with the header's size, the chains
--- that
--- it might have, and the bytes that they held
+-- that it might have, and the bytes that they held
 pub record Packet : Type 0 where
   pub file : ℕ
   pub name : Option Name
@@ -64,9 +63,8 @@ pub record Packet : Type 0 where
   pub quota : ℕ
   pub had : ℕ
 
--- the memory, the vhosts, the turns under way, the packets, the frames that were accepted, the turns with their
--- files, the
--- commands that are done, and the lines that fail; after a step that can't be, no more is replayed
+-- the memory, the vhosts, the turns under way, the packets, the frames that were accepted, the turns with their files,
+-- the commands that are done, and the lines that fail; after a step that can't be, no more is replayed
 pub record Replay : Type 0 where
   pub memory : Contents
   pub vhosts : List (Option Vhost)

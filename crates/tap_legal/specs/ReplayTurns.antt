@@ -1,6 +1,5 @@
 -- This project's own, of clause g of a legal trace: the steps of turns in the fold. Between two steps on the guest a
--- turn
--- has steps on the file or the host alone, which aren't printed.
+-- turn has steps on the file or the host alone, which aren't printed.
 use Rattle.std.specs.Prelude.{ℕ, ◌==◌, ◌&&◌, not, if◌then◌else◌, Bool, true, false, List, [], ◌∷◌, ◌++◌, length, filter, find, Option, Some, None, option_map, option_and_then}
 use Rattle.std.specs.List.{list_any}
 use Rattle.std.specs.Option.{option_map_or}

@@ -18,6 +18,7 @@ pub mod Scripts
 pub mod Step
 pub mod Runs
 pub mod Project
+pub mod SoundRings
 pub mod Sound
 pub mod Laws
 pub mod Examples

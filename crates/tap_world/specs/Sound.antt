@@ -1,25 +1,23 @@
 -- This project's own: what holds in every world that a run can reach, in ten parts, each of what it names.
-use Rattle.std.specs.Prelude.{◌≡◌, ℕ, ◌+◌, ◌-◌, ◌^◌, ◌≤◌, ◌⊎◌, ◌↔◌, ◌==◌, ◌&&◌, max, not, Bool, true, false, if◌then◌else◌, List, [], ◌∷◌, map, take, drop, slice_get, Option, Some, None, is_some}
+use Rattle.std.specs.Prelude.{◌≡◌, ℕ, ◌+◌, ◌-◌, ◌^◌, ◌≤◌, ◌⊎◌, ◌↔◌, ◌==◌, ◌&&◌, max, not, Bool, true, false, if◌then◌else◌, List, [], ◌∷◌, slice_get, Option, Some, None, is_some}
 use Rattle.std.specs.Option.{option_map_or}
 use Rattle.std.specs.List.{AllByRecursion, list_any}
 use Rattle.tap_frame.specs.declared.name.Name.{Name}
 use Rattle.tap_ledger.specs.declared.fate.Fate.TheVariants as fate
 use Rattle.tap_steer.specs.Table.{Table, file_at}
-use Rattle.vhost_queue.specs.Positions.{IsInOrder, Positions, positions_from}
-use Rattle.vhost_queue.specs.Queue.{IsGood, IsQueueSize}
-use Rattle.vhost_dev.specs.Settings.{RingSettings}
 use Rattle.tap_trace.specs.declared.answer.Answer.{Answer}
 use Rattle.tap_trace.specs.declared.answer.Answer.TheVariants as answer
 use Rattle.tap_trace.specs.declared.turn.ChainText.{ChainText}
 use Rattle.tap_trace.specs.declared.turn.ChainText.TheVariants as chain
 use Rattle.tap_world.specs.ByNumber.{at}
-use Rattle.tap_world.specs.Guests.{Guest, Vhost}
+use Rattle.tap_world.specs.Guests.{Vhost}
 use Rattle.tap_world.specs.Setup.{Setup}
 use Rattle.tap_world.specs.StepTable.{is_enabled}
 use Rattle.tap_world.specs.Line.{Entry, File, Standing, claimed, count, first_that, freed, in_batch, is_empty, is_kept}
 use Rattle.tap_world.specs.Line.Standing.{Batched, Claimed, Cut, Out, Ready}
 use Rattle.tap_world.specs.World.{Actor, Doing, Said, World, name_of, newest, table}
 use Rattle.tap_world.specs.World.Doing.{Backed, Backs, Begun, Changes, Disowned, Opened, Opens, Owns, Placed, Purges, Receives, Released, Resizes, Shrinks, Unbacked, Withdrawn, Withdraws}
+use Rattle.tap_world.specs.SoundRings.{HasRings, IsActor, IsServed, TurnsAreHeld}
 
 -- ---- each file, each vhost, each actor
 
@@ -217,27 +215,6 @@ HandIsOwners w file f =
     → (f.owner ≡ Some vhost) × (is_some (first_that in_batch f.line) ≡ true)
     × (list_any (λ (a : Actor). is_receiving file a.doing) w.actors ≡ true)
 
--- ---- 8: rings
-
--- so many published chains from one on stand at the positions from a base on
-abbrev pub IsPublishedFrom : ℕ → ℕ → ℕ → Positions → Type 0
-IsPublishedFrom base start n p = map (λ e. e.0) (take n (drop start p.journal)) ≡ positions_from base n
-
--- each list of positions that is over has its positions in order; the latest is published, then done, then gathered
-abbrev pub ListsInOrder : List (ℕ × ℕ) → Positions → Type 0
-ListsInOrder [] p = Unit {0}
-ListsInOrder (l ∷ []) p = IsInOrder l.0 l.1 p
-ListsInOrder (l ∷ m ∷ ls) p = IsPublishedFrom l.0 l.1 (m.1 - l.1) p × ListsInOrder (m ∷ ls) p
-
--- The lists of positions are in order; the ring has a queue size; with a backend it lies in its guest.
-pub record IsRing (g : Guest) (r : RingSettings) : Type 0 where
-  pub lists : ListsInOrder r.lists r.queue.positions
-  pub size : IsQueueSize r.queue.layout.num
-  pub good : is_some r.file ≡ true → IsGood r.queue g.memory
-
-abbrev pub HasRings : World → ℕ → Vhost → Type 0
-HasRings w vhost v = (g : Guest) × (at w.guests v.guest ≡ Some g) × IsRing g v.settings.rx × IsRing g v.settings.tx
-
 -- ---- 9: versions
 
 -- No actor has seen more versions than there are.
@@ -280,5 +257,8 @@ pub record IsSound (s : Setup) (w : World) : Type 0 where
   pub backends : EachVhost w (HasItsBackends s w)
   pub hand : EachFile w (HandIsOwners w)
   pub rings : EachVhost w (HasRings w)
+  pub served : EachVhost w (IsServed w)
   pub seen : EachActor w (HasSeen w)
   pub writer : EachActor w (WriterIsHeld w)
+  pub turns : EachVhost w (TurnsAreHeld w)
+  pub holders : IsActor w w.writer × EachVhost w (λ vhost v. IsActor w v.rx_turn × IsActor w v.tx_turn)

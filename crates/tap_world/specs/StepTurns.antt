@@ -1,6 +1,5 @@
 -- This project's own: the events of a receive worker's turns. Each is the next step of the turn, on the ring, the
--- guest's
--- memory and the file; the turn's first event takes the ring's turn, and its last one gives it back.
+-- guest's memory and the file; the turn's first event takes the ring's turn, and its last one gives it back.
 use Rattle.std.specs.Prelude.{ℕ, ◌&&◌, Bool, if◌then◌else◌, [], length, Option, Some, None, is_none, is_some, slice_get, option_map}
 use Rattle.std.specs.Option.{option_map_or}
 use Rattle.guest_mem.specs.Memory.{Contents}

@@ -1,0 +1,77 @@
+-- This project's own: what holds of the rings of vhosts in every world of a run, and who holds their turns.
+use Rattle.std.specs.Prelude.{◌≡◌, ℕ, ◌<◌, ◌==◌, ◌&&◌, Bool, true, false, slice_get, Option, Some, None, is_some}
+use Rattle.std.specs.Option.{option_map_or}
+use Rattle.scen_words.specs.declared.command.Command.{Command}
+use Rattle.scen_words.specs.declared.command.Command.TheVariants as command
+use Rattle.vhost_queue.specs.Positions.{IsIdle}
+use Rattle.vhost_queue.specs.Queue.{IsGood, IsQueueSize}
+use Rattle.vhost_dev.specs.Settings.{RingSettings, ring_at}
+use Rattle.vhost_dev.specs.Lists.{AreInOrder}
+use Rattle.tap_world.specs.Then.{only_if}
+use Rattle.tap_world.specs.ByNumber.{at}
+use Rattle.tap_world.specs.Guests.{Guest, Vhost, is_ring, turn_of}
+use Rattle.tap_world.specs.Setup.{Numbered}
+use Rattle.tap_world.specs.World.{Actor, Doing, World, current}
+use Rattle.tap_world.specs.World.Doing.{Backed, Backs, Disowned, Given, Owns, Receives, Released, Teaches, Transmits, Unbacked}
+
+-- ---- 8: rings
+
+-- The lists of positions are in order; the ring has a queue size; with a backend it lies in its guest.
+pub record IsRing (g : Guest) (r : RingSettings) : Type 0 where
+  pub lists : AreInOrder r.lists r.queue.positions
+  pub size : IsQueueSize r.queue.layout.num
+  pub good : is_some r.file ≡ true → IsGood r.queue g.memory
+
+abbrev pub HasRings : World → ℕ → Vhost → Type 0
+HasRings w vhost v = (g : Guest) × (at w.guests v.guest ≡ Some g) × IsRing g v.settings.rx × IsRing g v.settings.tx
+
+-- a command serves its ring: a turn after its first event, by which it turned notices off
+abbrev pub serves : Doing → Bool
+serves (Receives file t) = true
+serves (Transmits file t chains) = true
+serves (Given file t chains frame) = true
+serves (Teaches file t chains frame) = true
+serves doing = false
+
+-- the vhost and the ring of a turn or a backend
+abbrev pub ring_in : Command → Option (ℕ × ℕ)
+ring_in (command.RxTurn vhost) = Some (vhost, 0)
+ring_in (command.TxTurn vhost) = Some (vhost, 1)
+ring_in (command.Backend vhost ring file) = only_if (is_ring ring) (vhost, ring)
+ring_in other = None
+
+-- the command under way is about this ring
+abbrev pub is_about : ℕ → ℕ → Option Numbered → Bool
+is_about vhost ring None = false
+is_about vhost ring (Some c) =
+    option_map_or (λ (r : ℕ × ℕ). r.0 == vhost && r.1 == ring) (ring_in c.command) false
+
+-- Outside a turn nothing of a ring is served and not published; and a ring that is served has a backend.
+pub record IsServed (w : World) (vhost : ℕ) (v : Vhost) : Type 0 where
+  pub idle : (ring : ℕ) → turn_of ring v ≡ None → IsIdle (ring_at ring v.settings).queue.positions
+  pub backed : (ring actor : ℕ) (a : Actor) → slice_get w.actors actor ≡ Some a → serves a.doing ≡ true
+      → is_about vhost ring (current a.script) ≡ true → is_some (ring_at ring v.settings).file ≡ true
+
+-- ---- 10: turns
+
+-- a command holds the turn of its ring: while it serves it, or is a backend that the table doesn't refuse
+abbrev pub holds_turn : Doing → Bool
+holds_turn (Backs None) = true
+holds_turn (Backed file) = true
+holds_turn (Owns file version) = true
+holds_turn (Unbacked file) = true
+holds_turn (Disowned file) = true
+holds_turn (Released file) = true
+holds_turn doing = serves doing
+
+-- A ring's turn is held exactly by the command under way that holds it.
+abbrev pub TurnsAreHeld : World → ℕ → Vhost → Type 0
+TurnsAreHeld w vhost v =
+    (ring actor : ℕ) (a : Actor) → ring < 2 → slice_get w.actors actor ≡ Some a
+    → (holds_turn a.doing && is_about vhost ring (current a.script))
+    ≡ option_map_or (λ other. other == actor) (turn_of ring v) false
+
+-- Who holds the writer or a ring's turn is an actor of the phase.
+abbrev pub IsActor : World → Option ℕ → Type 0
+IsActor w None = Unit {0}
+IsActor w (Some actor) = is_some (slice_get w.actors actor) ≡ true
