@@ -97,4 +97,5 @@ halted = stepped 0 (kind.Halt 5 0 9) ∷ stepped 1 (kind.Backend 5 0 true) ∷ [
 abbrev pub StoppedUntilBacked : Type 0
 StoppedUntilBacked =
     (stopped (roles backing) 5 0 (record { guest = 0; steps = halted } ∷ []) ≡ 9)
-    × (stopped (roles backing) 5 0 (record { guest = 0; steps = halted ++ stepped 2 (kind.Backend 5 0 true) ∷ [] } ∷ []) ≡ 0)
+    × (stopped (roles backing) 5 0
+    (record { guest = 0; steps = halted ++ stepped 2 (kind.Backend 5 0 true) ∷ [] } ∷ []) ≡ 0)

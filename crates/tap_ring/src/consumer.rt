@@ -28,7 +28,8 @@ impl Model for Consumer {
 
     ghost view = { λ c. token c.seat.table_id c.seat.me.0 };
 
-    ghost invariant = { λ c. IsConsumer c.seat.me.0 × (c.seat.me.1 ≡ []) × (c.front ≡ c.seat.me.0.next) × (c.freed ≡ c.seat.me.0.freed) };
+    ghost invariant = { λ c. IsConsumer c.seat.me.0 × (c.seat.me.1 ≡ []) × (c.front ≡ c.seat.me.0.next)
+        × (c.freed ≡ c.seat.me.0.freed) };
 }
 
 /// The front place has no frame yet: it isn't claimed, or its frame isn't put.
@@ -40,7 +41,8 @@ pub struct NotReady {
 
 // Takes the frame of the front place, if it is there, and leaves the slot empty.
 fn take_front(places: &Places, most: u16, seat: &mut RingSeat, place: u64) -> Option<Frame>
-    requires ring { (seat.old.table_id ≡ places.now.table_id) × (places.now.table_id.words ≡ 130 + most) × (places.now.table_id.slots ≡ most) × (0 < most) }
+    requires ring { (seat.old.table_id ≡ places.now.table_id) × (places.now.table_id.words ≡ 130 + most)
+        × (places.now.table_id.slots ≡ most) × (0 < most) }
     requires consumer { IsConsumer seat.old.me.0 × (seat.old.me.1 ≡ []) × (place ≡ seat.old.me.0.next) }
     ensures ring { seat.new.table_id ≡ seat.old.table_id }
     ensures consumer { IsConsumer seat.new.me.0 × (seat.new.me.1 ≡ []) }

@@ -32,8 +32,10 @@ pub struct Ended {
 
 // A producer's claims come to the consumer's seat.
 fn join(places: &Places, seat: &mut RingSeat, p: Producer)
-    requires ring { (seat.old.table_id ≡ places.now.table_id) × (p.ring ≡ places.now.table_id) × (0 < places.now.table_id.words) }
-    requires consumer { (seat.old.me.0.takes ≡ true) × (seat.old.me.0.in_hand ≡ None) × (seat.old.me.0.putting ≡ None) × (seat.old.me.1 ≡ []) }
+    requires ring { (seat.old.table_id ≡ places.now.table_id) × (p.ring ≡ places.now.table_id)
+        × (0 < places.now.table_id.words) }
+    requires consumer { (seat.old.me.0.takes ≡ true) × (seat.old.me.0.in_hand ≡ None)
+        × (seat.old.me.0.putting ≡ None) × (seat.old.me.1 ≡ []) }
     ensures ring { seat.new.table_id ≡ seat.old.table_id }
     ensures joined { seat.new.me ≡ (with_producer seat.old.me.0 p.view, []) }
     ensures one { p.view.parts ≡ 1 }
@@ -44,8 +46,10 @@ fn join(places: &Places, seat: &mut RingSeat, p: Producer)
 
 // What the keeper knows comes to the consumer's seat.
 fn join_keeper(places: &Places, seat: &mut RingSeat, k: Keeper)
-    requires ring { (seat.old.table_id ≡ places.now.table_id) × (k.ring ≡ places.now.table_id) × (0 < places.now.table_id.words) }
-    requires consumer { (seat.old.me.0.takes ≡ true) × (seat.old.me.0.in_hand ≡ None) × (seat.old.me.0.putting ≡ None) × (seat.old.me.1 ≡ []) }
+    requires ring { (seat.old.table_id ≡ places.now.table_id) × (k.ring ≡ places.now.table_id)
+        × (0 < places.now.table_id.words) }
+    requires consumer { (seat.old.me.0.takes ≡ true) × (seat.old.me.0.in_hand ≡ None)
+        × (seat.old.me.0.putting ≡ None) × (seat.old.me.1 ≡ []) }
     ensures ring { seat.new.table_id ≡ seat.old.table_id }
     ensures joined { seat.new.me ≡ (with_keeper seat.old.me.0 k.view, []) }
 {
@@ -62,7 +66,8 @@ fn join_keeper(places: &Places, seat: &mut RingSeat, k: Keeper)
 fn gather(places: &Places, seat: &mut RingSeat, mut all: Vec<Producer>)
     requires ring { (seat.old.table_id ≡ places.now.table_id) × (0 < places.now.table_id.words) }
     requires producers { AllOfRing places.now.table_id all.items }
-    requires consumer { (seat.old.me.0.takes ≡ true) × (seat.old.me.0.in_hand ≡ None) × (seat.old.me.0.putting ≡ None) × (seat.old.me.1 ≡ []) }
+    requires consumer { (seat.old.me.0.takes ≡ true) × (seat.old.me.0.in_hand ≡ None)
+        × (seat.old.me.0.putting ≡ None) × (seat.old.me.1 ≡ []) }
     ensures ring { seat.new.table_id ≡ seat.old.table_id }
     ensures gathered { seat.new.me ≡ (gathered seat.old.me.0 all.items, []) }
     ensures parts { seat.new.me.0.parts ≡ seat.old.me.0.parts + length all.items }
@@ -85,10 +90,16 @@ fn empty_slots(
     ensures items { slots_items closed.new.slots ≡ slots_items closed.old.slots }
     ensures len { slots_len closed.new.slots ≡ slots_len closed.old.slots }
     ensures emptied { (k : ℕ) → from ≤ k → k < to → slice_index_or (slots_filled closed.new.slots) k false ≡ false }
-    ensures others { (k : ℕ) → k < from → slice_index_or (slots_filled closed.new.slots) k false ≡ slice_index_or (slots_filled closed.old.slots) k false }
-    ensures behind { (k : ℕ) → to ≤ k → slice_index_or (slots_filled closed.new.slots) k false ≡ slice_index_or (slots_filled closed.old.slots) k false }
-    ensures left { left.new.items ≡ left.old.items ++ present (take (to - from) (drop from (slots_items closed.old.slots))) }
-    ensures room { (vec_capacity left.new ≡ vec_capacity left.old) × (vec_len left.new ≤ vec_len left.old + (to - from)) }
+    ensures others { (k : ℕ) → k < from
+        → slice_index_or (slots_filled closed.new.slots) k false
+        ≡ slice_index_or (slots_filled closed.old.slots) k false }
+    ensures behind { (k : ℕ) → to ≤ k
+        → slice_index_or (slots_filled closed.new.slots) k false
+        ≡ slice_index_or (slots_filled closed.old.slots) k false }
+    ensures left { left.new.items ≡ left.old.items ++ present
+        (take (to - from) (drop from (slots_items closed.old.slots))) }
+    ensures room { (vec_capacity left.new ≡ vec_capacity left.old)
+        × (vec_len left.new ≤ vec_len left.old + (to - from)) }
 {
     for i in from..to {
         keep(left, closed.take(i));
@@ -132,7 +143,8 @@ impl TapRing {
         requires producers { AllOfRing self.ring all.items × (length all.items ≡ self.plan.producers) }
         requires consumer { c.ring ≡ self.ring }
         requires keeper { k.ring ≡ self.ring }
-        ensures { IsEnd self.plan.first all.items c.view k.view result.claimed result.freed result.lifted result.left.items }
+        ensures { IsEnd self.plan.first all.items c.view k.view result.claimed result.freed result.lifted
+            result.left.items }
     {
         let TapRing { table, most, left } = self;
         let Consumer {

@@ -30,7 +30,8 @@ impl Model for Keeper {
 
     ghost view = { λ k. token k.seat.table_id k.seat.me.0 };
 
-    ghost invariant = { λ k. IsKeeper k.seat.me.0 × (k.seat.me.1 ≡ []) × (k.epoch ≡ k.seat.me.0.gate.epoch) × (k.resizes ≡ k.seat.me.0.gate.resizes) × (k.claimed ≡ k.seat.me.0.gate.claimed) };
+    ghost invariant = { λ k. IsKeeper k.seat.me.0 × (k.seat.me.1 ≡ []) × (k.epoch ≡ k.seat.me.0.gate.epoch)
+        × (k.resizes ≡ k.seat.me.0.gate.resizes) × (k.claimed ≡ k.seat.me.0.gate.claimed) };
 }
 
 /// The greatest number of resizes.
@@ -52,7 +53,8 @@ pub struct ResizesSpent;
 impl Keeper {
     // The keeper of a ring that has just been made.
     pub(crate) fn new(seat: RingSeat, first: u64) -> Keeper
-        requires { IsKeeper seat.me.0 × (seat.me.1 ≡ []) × (seat.me.0.gate.epoch ≡ 0) × (seat.me.0.gate.resizes ≡ 0) × (seat.me.0.gate.claimed ≡ first) }
+        requires { IsKeeper seat.me.0 × (seat.me.1 ≡ []) × (seat.me.0.gate.epoch ≡ 0)
+            × (seat.me.0.gate.resizes ≡ 0) × (seat.me.0.gate.claimed ≡ first) }
         ensures { result ≡ token seat.table_id seat.me.0 }
     {
         Keeper {

@@ -65,8 +65,10 @@ impl TapRing {
         requires capacity { (1 ≤ capacity) × (capacity ≤ most) × (most ≤ 1024) }
         requires first { first < 2 ^ 40 }
         requires producers { 1 ≤ producers }
-        ensures ring { IfOk result (λ p. (p.ring.most ≡ most) × (p.ring.plan ≡ record { first = first; capacity = capacity; producers = producers })) }
-        ensures producers { IfOk result (λ p. p.producers.items ≡ replicate producers (token p.ring.ring (new_producers p.ring.plan 1))) }
+        ensures ring { IfOk result (λ p. (p.ring.most ≡ most)
+            × (p.ring.plan ≡ record { first = first; capacity = capacity; producers = producers })) }
+        ensures producers { IfOk result
+            (λ p. p.producers.items ≡ replicate producers (token p.ring.ring (new_producers p.ring.plan 1))) }
         ensures consumer { IfOk result (λ p. p.consumer ≡ token p.ring.ring (new_consumer p.ring.plan)) }
         ensures keeper { IfOk result (λ p. p.keeper ≡ token p.ring.ring (new_keeper p.ring.plan)) }
     {

@@ -86,7 +86,8 @@ fn claim(
     gate: u64,
     frame: Frame,
 ) -> Result<u64, (Frame, u64)>
-    requires ring { (seat.old.table_id ≡ places.now.table_id) × (places.now.table_id.words ≡ 130 + most) × (places.now.table_id.slots ≡ most) × (0 < most) }
+    requires ring { (seat.old.table_id ≡ places.now.table_id) × (places.now.table_id.words ≡ 130 + most)
+        × (places.now.table_id.slots ≡ most) × (0 < most) }
     requires producer { IsProducer seat.old.me.0 × (seat.old.me.1 ≡ []) }
     requires gate { (gate ≡ gate_of seat.old.me.0.gate) × Fits seat.old.me.0.gate }
     requires unshut { seat.old.me.0.gate.shut ≡ false }
@@ -116,9 +117,11 @@ fn claim(
 fn look_again(places: &Places, seat: &mut RingSeat, gate: u64, resizes: u8, freed: u64) -> Why
     requires ring { (seat.old.table_id ≡ places.now.table_id) × (130 < places.now.table_id.words) }
     requires producer { IsProducer seat.old.me.0 × (seat.old.me.1 ≡ []) }
-    requires gate { (gate ≡ gate_of seat.old.me.0.asked) × Fits seat.old.me.0.asked × (resizes ≡ seat.old.me.0.asked.resizes) }
+    requires gate { (gate ≡ gate_of seat.old.me.0.asked) × Fits seat.old.me.0.asked
+        × (resizes ≡ seat.old.me.0.asked.resizes) }
     ensures ring { seat.new.table_id ≡ seat.old.table_id }
-    ensures told { (m : Moment) × IsNew seat.old.me.0 m × (seat.new.me ≡ (seen_gate m seat.old.me.0, [])) × IsSecondLook gate freed seat.old.me.0.asked m result }
+    ensures told { (m : Moment) × IsNew seat.old.me.0 m × (seat.new.me ≡ (seen_gate m seat.old.me.0, []))
+        × IsSecondLook gate freed seat.old.me.0.asked m result }
 {
     let again = load_gate(places, seat);
     if resizes_of(again) == resizes {
@@ -142,7 +145,8 @@ fn put(
     epoch: u16,
     frame: Frame,
 ) -> Result<u64, PutBack>
-    requires ring { (seat.old.table_id ≡ places.now.table_id) × (places.now.table_id.words ≡ 130 + most) × (places.now.table_id.slots ≡ most) × (0 < most) }
+    requires ring { (seat.old.table_id ≡ places.now.table_id) × (places.now.table_id.words ≡ 130 + most)
+        × (places.now.table_id.slots ≡ most) × (0 < most) }
     requires producer { IsProducer seat.old.me.0 × (seat.old.me.1 ≡ []) }
     ensures ring { seat.new.table_id ≡ seat.old.table_id }
     ensures producer { IsProducer seat.new.me.0 × (seat.new.me.1 ≡ []) }

@@ -23,5 +23,7 @@ impl Model for TapRing {
 
     ghost view = { λ r. record { ring = r.table.shared.table_id; plan = r.table.shared.key; most = r.most } };
 
-    ghost invariant = { λ r. (r.table.shared.table_id.words ≡ 130 + r.most) × (r.table.shared.table_id.slots ≡ r.most) × (0 < r.most) × (r.left.items ≡ []) × (r.most ≤ vec_capacity r.left) };
+    ghost invariant = { λ r. (r.table.shared.table_id.words ≡ 130 + r.most)
+        × (r.table.shared.table_id.slots ≡ r.most) × (0 < r.most) × (r.left.items ≡ [])
+        × (r.most ≤ vec_capacity r.left) };
 }

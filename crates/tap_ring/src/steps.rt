@@ -72,15 +72,19 @@ pub(crate) fn exchange_gate(
     requires few { seat.old.me.0.gate.claimed + 1 < 2 ^ 40 }
     requires room { seat.old.me.0.gate.claimed < seat.old.me.0.room.freed + seat.old.me.0.gate.capacity }
     ensures ring { seat.new.table_id ≡ seat.old.table_id }
-    ensures told { steps.Exchanges (step places.now.table_id.slots 0 gate (gate + 1) (some item.now)) seat.old.me result seat.new.me }
+    ensures told { steps.Exchanges
+        (step places.now.table_id.slots 0 gate (gate + 1) (some item.now)) seat.old.me result seat.new.me }
 {
     places.compare_exchange_with::<Exchanges>(seat, GATE, gate, gate + 1, item)
 }
 
 /// Stores the place's number: its frame lies in its slot.
 pub(crate) fn store_number(places: &Places, seat: &mut RingSeat, slot: usize, number: u64)
-    requires ring { (seat.old.table_id ≡ places.now.table_id) × (130 + slot < places.now.table_id.words) × (130 + slot < 2 ^ 64) }
-    requires claim { (c : Claim) × (seat.old.me.0.putting ≡ Some c) × (seat.old.me.1 ≡ (slot, Some c.frame) ∷ rest seat.old.me.1) × (slot ≡ c.place % places.now.table_id.slots) × (number ≡ c.place + 1) }
+    requires ring { (seat.old.table_id ≡ places.now.table_id) × (130 + slot < places.now.table_id.words)
+        × (130 + slot < 2 ^ 64) }
+    requires claim { (c : Claim) × (seat.old.me.0.putting ≡ Some c)
+        × (seat.old.me.1 ≡ (slot, Some c.frame) ∷ rest seat.old.me.1)
+        × (slot ≡ c.place % places.now.table_id.slots) × (number ≡ c.place + 1) }
     ensures ring { seat.new.table_id ≡ seat.old.table_id }
     ensures told { seat.new.me ≡ (record (seat.old.me.0) { putting = None }, rest seat.old.me.1) }
 {
@@ -89,7 +93,8 @@ pub(crate) fn store_number(places: &Places, seat: &mut RingSeat, slot: usize, nu
 
 /// The word of the front place. Where it is the place's number, the slot is the seat's.
 pub(crate) fn load_front(places: &Places, seat: &mut RingSeat, slot: usize) -> u64
-    requires ring { (seat.old.table_id ≡ places.now.table_id) × (130 + slot < places.now.table_id.words) × (130 + slot < 2 ^ 64) }
+    requires ring { (seat.old.table_id ≡ places.now.table_id) × (130 + slot < places.now.table_id.words)
+        × (130 + slot < 2 ^ 64) }
     requires consumer { (seat.old.me.0.takes ≡ true) × (seat.old.me.0.in_hand ≡ None) }
     requires slot { slot ≡ seat.old.me.0.next % places.now.table_id.slots }
     ensures ring { seat.new.table_id ≡ seat.old.table_id }
@@ -100,9 +105,11 @@ pub(crate) fn load_front(places: &Places, seat: &mut RingSeat, slot: usize) -> u
 
 /// The slot of the front place goes back: its frame is lifted.
 pub(crate) fn give_front(places: &Places, seat: &mut RingSeat, slot: usize)
-    requires ring { (seat.old.table_id ≡ places.now.table_id) × (130 + slot < places.now.table_id.words) × (130 + slot < 2 ^ 64) }
+    requires ring { (seat.old.table_id ≡ places.now.table_id) × (130 + slot < places.now.table_id.words)
+        × (130 + slot < 2 ^ 64) }
     requires consumer { (seat.old.me.0.takes ≡ true) × ((frame : FrameValue) × (seat.old.me.0.in_hand ≡ Some frame)) }
-    requires slot { (slot ≡ seat.old.me.0.next % places.now.table_id.slots) × (seat.old.me.1 ≡ (slot, None) ∷ rest seat.old.me.1) }
+    requires slot { (slot ≡ seat.old.me.0.next % places.now.table_id.slots)
+        × (seat.old.me.1 ≡ (slot, None) ∷ rest seat.old.me.1) }
     ensures ring { seat.new.table_id ≡ seat.old.table_id }
     ensures told { steps.Lifts (step places.now.table_id.slots 0 0 0 none) seat.old.me 0 seat.new.me }
 {

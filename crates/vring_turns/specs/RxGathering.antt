@@ -119,7 +119,8 @@ CrowdedAfterTwo =
 abbrev pub crowded_late : List Act × RxState
 crowded_late =
     let descs = (8192, 40, 3, 3) ∷ (8192, 40, 3, 4) ∷ (8192, 40, 2, 0) ∷ [] in
-    let first = rx_steps 2 [] (two_gathered (memory_with (with_table 2 descs (offered_at 128 2 (0 ∷ 1 ∷ 2 ∷ []) [])))) in
+    let first = rx_steps 2 [] (two_gathered
+    (memory_with (with_table 2 descs (offered_at 128 2 (0 ∷ 1 ∷ 2 ∷ []) [])))) in
     let rest = rx_steps 30 [] (record first.1 { memory = third descs }) in
     (first.0 ++ rest.0, rest.1)
 

@@ -93,7 +93,8 @@ tx_restarted avail = tx_start (queue_on flagged) (with_flags 0 avail 1)
 abbrev pub NoInterrupt : Type 0
 NoInterrupt =
     ((tx_steps 7 (tx_restarted 1)).0
-    ≡ Notices false true ∷ Fetch 0 0 ∷ Copy 0 (name_of 0) ∷ Given (name_of 0) ∷ Nothing ∷ Notices true true ∷ Nothing ∷ [])
+    ≡ Notices false true ∷ Fetch 0 0 ∷ Copy 0 (name_of 0) ∷ Given (name_of 0)
+    ∷ Nothing ∷ Notices true true ∷ Nothing ∷ [])
     × ((tx_step (tx_steps 7 (tx_restarted 1)).1) ≡ Some ((tx_steps 8 (tx_restarted 1)).1, Publish 1 false))
     × ((tx_step (tx_steps 7 (tx_restarted 254)).1) ≡ Some ((tx_steps 8 (tx_restarted 254)).1, Publish 1 true))
 
@@ -104,7 +105,8 @@ laid_over = ring_of false 4 64 72
 
 abbrev pub overwritten : List Act × TxState
 overwritten = tx_steps 20 (tx_start (queue_on laid_over) (memory_with
-    (with_bytes (with_bytes (with_table 0 (good ∷ []) (offered_at 64 1 (0 ∷ []) [])) 76 (5 ∷ [])) (4096 + 12) ethernet)))
+    (with_bytes (with_bytes (with_table 0 (good ∷ []) (offered_at 64 1 (0 ∷ []) [])) 76 (5 ∷ []))
+    (4096 + 12) ethernet)))
 
 abbrev pub NoticeIsJudgedLast : Type 0
 NoticeIsJudgedLast =

@@ -69,8 +69,8 @@ at_stage stage t = record t { stage = stage }
 abbrev pub tx_closing : End → Queue → TxStage
 tx_closing end q = if done_in q == 0 then Ended end else Publish (Some end)
 
--- a packet is behind it: it did enough, each packet being one chain, or so many chains are done that they are published,
--- or it goes on
+-- a packet is behind it: it did enough, each packet being one chain, or so many chains are done that they are
+-- published, or it goes on
 abbrev pub tx_after_packet : TxTurn → Queue → TxStage
 tx_after_packet t q =
     if is_enough t.packets t.bytes t.packets then tx_closing Again q

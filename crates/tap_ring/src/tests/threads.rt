@@ -101,7 +101,8 @@ fn consume<R: Wait + Abort>(
     mut c: Consumer,
     mut k: Keeper,
 ) -> (Consumer, Keeper, Vec<Name>)
-    requires { (c.ring ≡ ring.now.ring) × (k.ring ≡ ring.now.ring) × (k.view.gate.shut ≡ true) × (ring.now.most ≡ 1024) }
+    requires { (c.ring ≡ ring.now.ring) × (k.ring ≡ ring.now.ring) × (k.view.gate.shut ≡ true)
+        × (ring.now.most ≡ 1024) }
     ensures { (result.0.ring ≡ ring.now.ring) × (result.1.ring ≡ ring.now.ring) }
 {
     let mut line = Vec::new(alloc);
@@ -175,7 +176,8 @@ fn run_all<R: Threads + Wait + Abort + Sync>(
 ) -> All
     requires low { (a.ring ≡ ring.now.ring) × (b.ring ≡ ring.now.ring) }
     requires high { (d.ring ≡ ring.now.ring) × (e.ring ≡ ring.now.ring) }
-    requires others { (c.ring ≡ ring.now.ring) × (k.ring ≡ ring.now.ring) × (k.view.gate.shut ≡ true) × (ring.now.most ≡ 1024) }
+    requires others { (c.ring ≡ ring.now.ring) × (k.ring ≡ ring.now.ring) × (k.view.gate.shut ≡ true)
+        × (ring.now.most ≡ 1024) }
     ensures low { (result.low.first.0.ring ≡ ring.now.ring) × (result.low.second.0.ring ≡ ring.now.ring) }
     ensures high { (result.high.first.0.ring ≡ ring.now.ring) × (result.high.second.0.ring ≡ ring.now.ring) }
     ensures others { (result.consumed.0.ring ≡ ring.now.ring) × (result.consumed.1.ring ≡ ring.now.ring) }
@@ -183,12 +185,16 @@ fn run_all<R: Threads + Wait + Abort + Sync>(
     let (consumed, (low, high)) = join(
         rt,
         move || -> (Consumer, Keeper, Vec<Name>)
-            requires { (c.ring ≡ ring.now.ring) × (k.ring ≡ ring.now.ring) × (k.view.gate.shut ≡ true) × (ring.now.most ≡ 1024) }
+            requires { (c.ring ≡ ring.now.ring) × (k.ring ≡ ring.now.ring) × (k.view.gate.shut ≡ true)
+                × (ring.now.most ≡ 1024) }
             ensures { (result.0.ring ≡ ring.entry.now.ring) × (result.1.ring ≡ ring.entry.now.ring) }
         { consume(rt, alloc, ring, c, k) },
         move || -> (Two, Two)
-            requires { (a.ring ≡ ring.now.ring) × (b.ring ≡ ring.now.ring) × (d.ring ≡ ring.now.ring) × (e.ring ≡ ring.now.ring) }
-            ensures { (result.0.first.0.ring ≡ ring.entry.now.ring) × (result.0.second.0.ring ≡ ring.entry.now.ring) × (result.1.first.0.ring ≡ ring.entry.now.ring) × (result.1.second.0.ring ≡ ring.entry.now.ring) }
+            requires { (a.ring ≡ ring.now.ring) × (b.ring ≡ ring.now.ring) × (d.ring ≡ ring.now.ring)
+                × (e.ring ≡ ring.now.ring) }
+            ensures { (result.0.first.0.ring ≡ ring.entry.now.ring)
+                × (result.0.second.0.ring ≡ ring.entry.now.ring) × (result.1.first.0.ring ≡ ring.entry.now.ring)
+                × (result.1.second.0.ring ≡ ring.entry.now.ring) }
         { produce_four(rt, alloc, ring, a, b, d, e) },
     );
     All {
