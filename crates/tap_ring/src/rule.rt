@@ -50,7 +50,7 @@ pub struct View {
     pub stored: Option<u16>,
     /// Whether another token took over what it knew.
     pub spent: bool,
-    /// What the ring was when it met the gate last.
+    /// What the ring was when it met the gate last; of the keeper, what its own step made of it.
     pub gate: Moment,
     pub gate_loads: u64,
     /// What the ring was when it loaded the gate before the capacity.
