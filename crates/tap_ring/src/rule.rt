@@ -53,8 +53,7 @@ pub struct View {
     pub stored: Option<u16>,
     /// Whether another token took over what it knew.
     pub spent: bool,
-    /// What the ring was when it met the gate last, by a load or an exchange; a keeper's own steps
-    /// on the gate count.
+    /// What the ring was when it met the gate last; of the keeper, what its own step made of it.
     pub gate: Moment,
     /// How often it met the gate.
     pub gate_loads: u64,
