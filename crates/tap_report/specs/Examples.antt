@@ -93,9 +93,13 @@ backing = record {
 abbrev pub halted : List StepLine
 halted = stepped 0 (kind.Halt 5 0 9) ∷ stepped 1 (kind.Backend 5 0 true) ∷ []
 
+abbrev pub backed : List StepLine
+backed = halted ++ stepped 2 (kind.Backend 5 0 true) ∷ []
+
+-- the fault by which ring 0 of vhost 5 is stopped after these steps
+abbrev pub stopped_by : List StepLine → ℕ
+stopped_by steps = stopped (roles backing) 5 0 (record { guest = 0; steps = steps } ∷ [])
+
 -- a ring stays stopped without a backend, and is not stopped with a new one
 abbrev pub StoppedUntilBacked : Type 0
-StoppedUntilBacked =
-    (stopped (roles backing) 5 0 (record { guest = 0; steps = halted } ∷ []) ≡ 9)
-    × (stopped (roles backing) 5 0
-    (record { guest = 0; steps = halted ++ stepped 2 (kind.Backend 5 0 true) ∷ [] } ∷ []) ≡ 0)
+StoppedUntilBacked = (stopped_by halted ≡ 9) × (stopped_by backed ≡ 0)

@@ -1,8 +1,9 @@
 //! The texts of traces.
 //!
-//! `specs/TraceText.antt` has the text of a trace, which is lines made of fields. `specs/Parts.antt` has its parts,
+//! `specs/TraceText.antt` has the text of a trace, which is lines made of fields; `specs/Parts.antt` has its parts,
 //! `specs/Operations.antt`, `specs/Answers.antt` and `specs/Steps.antt` their lines, and `specs/Causes.antt` the
-//! causes.
+//! causes. `specs/Fits.antt` and `specs/Ordered.antt` say which traces have a text, `specs/BadLine.antt` which line of
+//! other bytes is the first bad one.
 #![tactic(auto)]
 
 mod answers;
