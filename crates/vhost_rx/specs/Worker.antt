@@ -153,7 +153,8 @@ name_in_hand w = option_map (λ f. f.name) w.turn.held
 -- What a step does.
 
 -- a change of a turn with what it works on
-abbrev pub Changes : (RxState → Option (RxState × Act)) → Worker → Queue → Contents → Worker → Queue → Contents → Act → Type 0
+abbrev pub Changes :
+    (RxState → Option (RxState × Act)) → Worker → Queue → Contents → Worker → Queue → Contents → Act → Type 0
 Changes change w q m w' q' m' told = change (state_of w q m) ≡ Some (state_of w' q' m', told)
 
 -- what a queue handed out ends the turn

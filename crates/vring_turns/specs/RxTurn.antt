@@ -183,7 +183,8 @@ rx_puts_back end s =
 
 -- what the queue of frames handed out: a frame, or none was ready; off and want of memory make no step
 abbrev pub rx_hands : Hand → RxState → Option (RxState × Act)
-rx_hands (hand.Got frame) s = Some (record s { turn = record s.turn { held = Some frame; stage = stage.Fetch } }, act.Hand)
+rx_hands (hand.Got frame) s =
+    Some (record s { turn = record s.turn { held = Some frame; stage = stage.Fetch } }, act.Hand)
 rx_hands (hand.NotReady place) s = Some (record s { turn = rx_at (rx_closing Idle s.queue) s.turn }, act.NotReady)
 rx_hands hand.Off s = None
 rx_hands hand.NoMemory s = None

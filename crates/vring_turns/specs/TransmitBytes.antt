@@ -1,4 +1,5 @@
--- VIRTIO 1.2, 5.1.6.2: how a frame is read from the chain that carries it. Which bytes are a frame is this project's own.
+-- VIRTIO 1.2, 5.1.6.2: how a frame is read from the chain that carries it. Which bytes are a frame is this project's
+-- own.
 use Rattle.std.specs.Prelude.{◌≡◌, ℕ, ◌+◌, ◌≤◌, min, Bool, false, ◌==◌, ◌||◌, List, length, Option, Some, unwrap_or, if◌then◌else◌}
 use Rattle.std.specs.Option.{ForSome}
 use Rattle.std.proofs.Common.{subst, ap, lit≤}
