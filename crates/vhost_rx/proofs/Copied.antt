@@ -1,16 +1,13 @@
 -- A receive worker and its queue fit together after a copy.
-use Rattle.std.proofs.Common.{◌≡◌, ℕ, suc, ◌+◌, ◌-◌, ◌<◌, ◌≤◌, Bool, true, false, List, [], ◌∷◌, ◌++◌, length, take, drop, None, is_some, refl, sym, ap, ◌∙◌, arith}
-use Rattle.std.proofs.lemmas.List.{length-append, append-nil}
-use Rattle.std.proofs.Math.Seq.{take-append_seam}
-use Rattle.std.proofs.Math.ListN.{drop_of_length-le}
+use Rattle.std.proofs.Common.{◌≡◌, ℕ, suc, ◌+◌, ◌-◌, List, [], ◌∷◌, length, refl, ap, ◌∙◌, arith}
+use Rattle.std.proofs.lemmas.List.{length-append}
 use Rattle.vhost_queue.specs.declared.done.Done.{Done}
 use Rattle.vhost_queue.specs.Positions.{Positions, with_done}
-use Rattle.vhost_queue.specs.Queue.{Queue, Reserved, turn_places}
+use Rattle.vhost_queue.specs.Queue.{Reserved}
 use Rattle.vring_turns.specs.declared.stage.RxStage.TheVariants as stage
 use Rattle.vring_turns.specs.Ring.{Gathered, bytes_in, with_all_done}
 use Rattle.vring_turns.specs.ReceiveImage.{shares}
-use Rattle.vring_turns.specs.RxTurn.{quota}
-use Rattle.vhost_rx.specs.Worker.{Worker, IsSteady, holds_at, copies_at, stopped_at, counts_at, copies_after, few_done_at}
+use Rattle.vhost_rx.specs.Worker.{Worker, IsSteady, holds_at, stopped_at, counts_at}
 
 length-shares : (cs : List Gathered) (n : ℕ) → length (shares cs n) ≡ length cs
 length-shares [] n = refl

@@ -1,5 +1,5 @@
 -- The step that comes next, at the stages with a frame in hand.
-use Rattle.std.proofs.Common.{◌≡◌, ℕ, Bool, true, false, Option, Some, None, IfSome, is_some, refl, sym, ap, ◌∙◌}
+use Rattle.std.proofs.Common.{◌≡◌, ℕ, Bool, true, Option, Some, None, IfSome, is_some, refl, sym, ap, ◌∙◌}
 use Rattle.tap_frame.specs.Frame.{FrameValue}
 use Rattle.tap_ledger.specs.declared.act.Act.{Act}
 use Rattle.guest_mem.specs.Memory.{Contents}

@@ -1,20 +1,18 @@
 -- A receive worker and its queue fit together after a fetch.
-use Rattle.std.proofs.Common.{◌≡◌, ℕ, ◌+◌, ◌-◌, ◌<◌, ◌≤◌, Bool, true, false, nat_le, List, [], ◌∷◌, ◌++◌, length, Option, Some, None, is_some, if◌then◌else◌, refl, sym, ap, ◌∙◌, subst, arith}
+use Rattle.std.proofs.Common.{◌≡◌, ℕ, ◌+◌, ◌<◌, ◌≤◌, Bool, true, false, nat_le, List, [], ◌∷◌, length, Option, Some, None, is_some, if◌then◌else◌, refl, sym, ap, ◌∙◌, arith}
 use Rattle.std.proofs.lemmas.List.{length-append}
 use Rattle.std.proofs.lemmas.Bool.Decides.{nat_tests}
-use Rattle.vring_split.specs.declared.fault.RingFault.{RingFault}
 use Rattle.vring_split.specs.declared.segment.Segment.{Segment}
 use Rattle.vring_walk.specs.declared.walk.Fetched.{Fetched}
 use Rattle.vring_walk.specs.declared.walk.Fetched.TheVariants.{Chain, Nothing, Bad, Crowded}
-use Rattle.vhost_queue.specs.Queue.{Queue, Reserved, turn_places}
-use Rattle.vring_turns.specs.declared.end.End.{End}
+use Rattle.vhost_queue.specs.Queue.{Reserved, turn_places}
 use Rattle.vring_turns.specs.declared.end.End.TheVariants.{Short, Stopped}
 use Rattle.vring_turns.specs.declared.stage.RxStage.{RxStage}
 use Rattle.vring_turns.specs.declared.stage.RxStage.TheVariants as stage
 use Rattle.vring_turns.specs.declared.stage.After.{After}
 use Rattle.vring_turns.specs.declared.stage.After.TheVariants as after
 use Rattle.vring_turns.specs.Ring.{Gathered, Ring, done_in, room_in, joined, all_rewound}
-use Rattle.vring_turns.specs.RxTurn.{RxTurn, quota, gathers, goes_on, stage_of, rx_after_fetch, rx_after_second, rx_rewinds}
+use Rattle.vring_turns.specs.RxTurn.{quota, goes_on, rx_after_fetch, rx_after_second, rx_rewinds}
 use Rattle.vhost_rx.specs.Worker.{Worker, IsSteady, need_in, ring_of, holds_at, gathers_at, copies_at, stopped_at, publishes_at, counts_at, copies_after, few_done_at}
 
 -- a stage at which a chain is fetched

@@ -1,9 +1,8 @@
 -- Two writes, one behind the other, are one.
-use Rattle.std.proofs.Common.{◌≡◌, ℕ, ◌+◌, ◌-◌, ◌<◌, ◌≤◌, ◌⊎◌, inl, inr, Bool, true, false, ◌&&◌, nat_le, nat_lt, List, ◌++◌, length, take, drop, get_or, IsTrue, refl, sym, ap, ◌∙◌, subst, arith, if◌then◌else◌}
+use Rattle.std.proofs.Common.{◌≡◌, ℕ, ◌+◌, ◌-◌, ◌<◌, ◌≤◌, ◌⊎◌, inl, inr, true, false, ◌&&◌, nat_le, nat_lt, List, ◌++◌, length, take, drop, get_or, IsTrue, refl, sym, ap, ◌∙◌, arith, if◌then◌else◌}
 use Rattle.std.proofs.lemmas.List.{get_or_append_left, get_or-append_right, length-append, length-drop, drop-append-le}
 use Rattle.std.proofs.Math.Seq.{take-append-add}
 use Rattle.std.proofs.lemmas.Bool.Decides.{nat_tests}
-use Rattle.guest_mem.specs.declared.region.Region.{Region}
 use Rattle.guest_mem.specs.Memory.{ByteList, Contents, value_at, covers, with_bytes, written}
 use Rattle.guest_mem.specs.Regions.{IsSound}
 use Rattle.guest_mem.specs.Laws.{PartsAreCovered, SameBytesOneList, ByteAfterWrite, WritesSoundly}

@@ -1,6 +1,6 @@
 -- This project's own: how the chains of a frame are kept: a head, a number of segments and a number of bytes for each,
 -- and all segments one after the other.
-use Rattle.std.specs.Prelude.{◌≡◌, ℕ, ◌+◌, ◌*◌, ◌^◌, ◌-◌, ◌≤◌, min, List, [], ◌∷◌, length, take, drop, vec_len, vec_capacity}
+use Rattle.std.specs.Prelude.{◌≡◌, ℕ, ◌*◌, ◌^◌, ◌-◌, ◌≤◌, min, List, [], ◌∷◌, length, take, drop, vec_len, vec_capacity}
 use Rattle.vring_split.specs.declared.segment.Segment.{Segment}
 use Rattle.vhost_queue.specs.declared.done.Done.{Done}
 use Rattle.vring_turns.specs.Ring.{Gathered, bytes_in, room_in}

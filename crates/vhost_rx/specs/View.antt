@@ -1,5 +1,5 @@
 -- This project's own: how a receive worker is kept.
-use Rattle.std.specs.Prelude.{◌≡◌, ℕ, IsTrue}
+use Rattle.std.specs.Prelude.{IsTrue}
 use Rattle.vring_turns.specs.TransmitBytes.{is_header_size}
 use Rattle.vhost_rx.specs.declared.worker.RxWorker.TheInside.{Inside}
 use Rattle.vhost_rx.specs.Worker.{Worker}

@@ -1,5 +1,5 @@
 -- This project's own: what a receive worker is to a contract, and how it and its queue fit together between two steps.
-use Rattle.std.specs.Prelude.{◌≡◌, ℕ, ◌+◌, ◌<◌, ◌≤◌, Bool, true, false, List, length, Option, None, Some, is_some}
+use Rattle.std.specs.Prelude.{◌≡◌, ℕ, ◌+◌, ◌<◌, ◌≤◌, Bool, true, false, length, Option, None, Some, is_some}
 use Rattle.std.specs.Option.{option_map}
 use Rattle.guest_mem.specs.Memory.{Contents}
 use Rattle.vring_split.specs.declared.fault.RingFault.{RingFault}
@@ -12,7 +12,6 @@ use Rattle.vring_turns.specs.declared.end.End.{End}
 use Rattle.vring_turns.specs.declared.end.End.TheVariants.{Stopped, Off, NoMemory}
 use Rattle.vring_turns.specs.declared.stage.RxStage.{RxStage}
 use Rattle.vring_turns.specs.declared.stage.RxStage.TheVariants as stage
-use Rattle.vring_turns.specs.declared.stage.After.{After}
 use Rattle.vring_turns.specs.declared.stage.After.TheVariants as after
 use Rattle.vring_turns.specs.Ring.{Ring, done_in, room_in}
 use Rattle.vring_turns.specs.ReceiveImage.{need_of}
@@ -153,8 +152,8 @@ name_in_hand w = option_map (λ f. f.name) w.turn.held
 -- What a step does.
 
 -- a change of a turn with what it works on
-abbrev pub Changes : (RxState → Option (RxState × Act)) → Worker → Queue → Contents → Worker → Queue → Contents
-    → Act → Type 0
+abbrev pub Changes :
+    (RxState → Option (RxState × Act)) → Worker → Queue → Contents → Worker → Queue → Contents → Act → Type 0
 Changes change w q m w' q' m' told = change (state_of w q m) ≡ Some (state_of w' q' m', told)
 
 -- what a queue handed out ends the turn

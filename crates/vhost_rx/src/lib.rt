@@ -9,6 +9,7 @@
 #![tactic(auto)]
 
 mod chains;
+mod fetches;
 mod lay;
 mod stages;
 mod steps;

@@ -1,14 +1,12 @@
 -- A worker and its queue fit together after notices were turned off again.
-use Rattle.std.proofs.Common.{◌≡◌, ℕ, ◌<◌, Bool, true, false, length, Option, Some, None, is_some, if◌then◌else◌, nat_eq, refl, ap, ◌∙◌, arith}
+use Rattle.std.proofs.Common.{◌≡◌, ℕ, ◌<◌, Bool, true, false, Option, Some, None, if◌then◌else◌, nat_eq, refl, ap, ◌∙◌, arith}
 use Rattle.vring_split.specs.declared.fault.RingFault.{RingFault}
-use Rattle.vhost_queue.specs.Queue.{Queue, Reserved}
-use Rattle.vring_turns.specs.declared.end.End.{End}
+use Rattle.vhost_queue.specs.Queue.{Reserved}
 use Rattle.vring_turns.specs.declared.end.End.TheVariants.{Stopped}
-use Rattle.vring_turns.specs.declared.stage.TxStage.{TxStage}
-use Rattle.vring_turns.specs.declared.stage.TxStage.TheVariants.{NoticesOff, Copy, Publish, Ended}
+use Rattle.vring_turns.specs.declared.stage.TxStage.TheVariants.{NoticesOff, Publish, Ended}
 use Rattle.vring_turns.specs.Ring.{done_in}
-use Rattle.vring_turns.specs.TxTurn.{at_stage, tx_closing, tx_after_notices}
-use Rattle.vhost_tx.specs.Worker.{Worker, IsSteady, IsSameQueue, HasNumbers, chains_at, holds_at, stopped_at, publishes_at, goes_on_at, fault_of}
+use Rattle.vring_turns.specs.TxTurn.{at_stage, tx_after_notices}
+use Rattle.vhost_tx.specs.Worker.{Worker, IsSteady, chains_at, holds_at, stopped_at, goes_on_at}
 
 -- where it ends with a fault, it publishes first where anything is done
 closing_steady :

@@ -1,5 +1,5 @@
 -- This project's own: what a transmit worker is to a contract, and how it and its queue fit together between two steps.
-use Rattle.std.specs.Prelude.{◌≡◌, ℕ, ◌+◌, ◌<◌, ◌≤◌, Bool, true, false, List, length, Option, None, Some, is_some}
+use Rattle.std.specs.Prelude.{◌≡◌, ℕ, ◌+◌, ◌<◌, ◌≤◌, Bool, true, false, length, Option, None, Some, is_some}
 use Rattle.guest_mem.specs.Memory.{Contents}
 use Rattle.vring_split.specs.declared.fault.RingFault.{RingFault}
 use Rattle.vring_split.specs.declared.layout.Layout.{Layout}
@@ -7,9 +7,9 @@ use Rattle.vhost_queue.specs.Queue.{Queue, Reserved, room_of, most_done}
 use Rattle.tap_ledger.specs.declared.act.Act.{Act}
 use Rattle.tap_ledger.specs.Host.{HostState}
 use Rattle.vring_turns.specs.declared.end.End.{End}
-use Rattle.vring_turns.specs.declared.end.End.TheVariants.{Idle, Short, Again, Stopped, Off, NoMemory}
+use Rattle.vring_turns.specs.declared.end.End.TheVariants.{Stopped, NoMemory}
 use Rattle.vring_turns.specs.declared.stage.TxStage.{TxStage}
-use Rattle.vring_turns.specs.declared.stage.TxStage.TheVariants.{Begin, Fetch, NoticesOn, FetchAgain, NoticesOff, Copy, Give, Publish, Ended}
+use Rattle.vring_turns.specs.declared.stage.TxStage.TheVariants.{NoticesOff, Copy, Give, Publish, Ended}
 use Rattle.vring_turns.specs.Ring.{Ring, done_in}
 use Rattle.vring_turns.specs.Turn.{is_enough}
 use Rattle.vring_turns.specs.TxTurn.{TxTurn, TxState, at_stage}

@@ -6,6 +6,7 @@
 //! `fits` tests. `specs/Worker.antt` says when a worker and a queue fit together.
 #![tactic(auto)]
 
+mod fetches;
 mod gather;
 mod stages;
 mod steps;

@@ -1,1 +1,3 @@
 mod TxRuns
+mod RxRuns
+mod TxFrames

@@ -1,5 +1,5 @@
 -- What each step of a transmit turn adds, and a run of them.
-use Rattle.std.proofs.Common.{◌≡◌, ℕ, ◌+◌, Bool, true, false, List, [], ◌∷◌, ◌++◌, length, map, Option, None, Some, unwrap_or, if◌then◌else◌, nat_lt, nat_eq, refl, sym, ap, ◌∙◌, subst, arith, append_assoc}
+use Rattle.std.proofs.Common.{◌≡◌, ℕ, ◌+◌, Bool, true, false, List, [], ◌∷◌, ◌++◌, map, Option, None, Some, unwrap_or, if◌then◌else◌, nat_lt, nat_eq, refl, sym, ap, ◌∙◌, subst, arith, append_assoc}
 use Rattle.std.proofs.lemmas.List.{append-nil, length-append, map-append}
 use Rattle.vring_split.specs.declared.segment.Segment.{Segment}
 use Rattle.vring_walk.specs.declared.walk.Fetched.{Fetched}
@@ -16,13 +16,13 @@ use Rattle.tap_ledger.specs.Host.{with_given}
 use Rattle.vring_turns.specs.declared.end.End.{End}
 use Rattle.vring_turns.specs.declared.stage.TxStage.{TxStage}
 use Rattle.vring_turns.specs.declared.stage.TxStage.TheVariants.{Begin, Fetch, NoticesOn, FetchAgain, NoticesOff, Copy, Give, Publish, Ended}
-use Rattle.vring_turns.specs.Ring.{Gathered, Ring, Made, joined, found, fetches, publishes, noticed, done_in, first_position}
+use Rattle.vring_turns.specs.Ring.{Gathered, Ring, Made, joined, found, fetches, noticed, done_in, first_position}
 use Rattle.vring_turns.specs.TransmitBytes.{bytes_of_chain, counted, refusal_of}
-use Rattle.vring_turns.specs.TxTurn.{TxTurn, TxState, tx_ring, tx_made, tx_done, tx_judged, tx_copies, tx_gives, tx_fetches, tx_publishes, tx_after_fetch, tx_after_second, tx_after_notices, tx_after_packet, tx_next, tx_step}
+use Rattle.vring_turns.specs.TxTurn.{TxTurn, TxState, tx_ring, tx_made, tx_done, tx_judged, tx_copies, tx_gives, tx_after_fetch, tx_after_second, tx_after_notices, tx_after_packet, tx_next}
 use Rattle.vring_turns.specs.TxRun.{Moment, IsTxRun, reads_at, first_chain, read_by, counted_in, chains_told, TxDid}
 
 -- what stands in a step's answer
-some_is : {A : Type 0} (x y : A) → Some x ≡ Some y → x ≡ y
+pub some_is : {A : Type 0} (x y : A) → Some x ≡ Some y → x ≡ y
 some_is x y e = ap (λ o. unwrap_or o x) e
 
 -- nothing was read
@@ -38,10 +38,10 @@ idle_did t t' q q' h p b c = record {
 }
 
 -- the published and the done ones are told alike
-abbrev told_of_published : Published → ℕ × ℕ
+abbrev pub told_of_published : Published → ℕ × ℕ
 told_of_published e = (e.1, e.2)
 
-abbrev told_of_done : Done → ℕ × ℕ
+abbrev pub told_of_done : Done → ℕ × ℕ
 told_of_done d = (d.head, d.len)
 
 told-published_from :
@@ -51,14 +51,14 @@ told-published_from position [] = refl
 told-published_from position (d ∷ ds) =
     ap (λ rest. told_of_done d ∷ rest) (told-published_from (after position 1) ds)
 
-told-published : (q : Queue) → chains_told (with_published q) ≡ chains_told q
+pub told-published : (q : Queue) → chains_told (with_published q) ≡ chains_told q
 told-published q =
     let F : Published → ℕ × ℕ = λ e. (e.1, e.2) in
     append-nil (map F (q.positions.journal ++ published_from (first_done q.positions) q.positions.done))
     ∙ (map-append F q.positions.journal (published_from (first_done q.positions) q.positions.done)
     ∙ ap (λ rest. map F q.positions.journal ++ rest) (told-published_from (first_done q.positions) q.positions.done))
 
-told-joined : (f : Fetched) (segments : List Segment) (r : Ring) → chains_told (joined f segments r).queue ≡ chains_told r.queue
+pub told-joined : (f : Fetched) (segments : List Segment) (r : Ring) → chains_told (joined f segments r).queue ≡ chains_told r.queue
 told-joined (Chain head) segments r = refl
 told-joined Nothing segments r = refl
 told-joined Crowded segments r = refl
@@ -154,7 +154,7 @@ give_did s s' told (Some frame) e = room_did (nat_lt 0 s.host.room) e
     room_did false e = cc
 
 -- what a publication makes, where anything is done
-abbrev published_made : TxState → Made
+abbrev pub published_made : TxState → Made
 published_made s = record {
   ring = record (tx_ring s) { queue = with_published s.queue };
   memory = published_in s.queue s.memory;

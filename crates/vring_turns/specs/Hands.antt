@@ -1,6 +1,5 @@
 -- This project's own: what a step of a receive turn makes of the queue of frames.
-use Rattle.std.specs.Prelude.{◌≡◌, ℕ, ◌≤◌, ◌↔◌, [], Option, IfSome, IsTrue, true}
-use Rattle.tap_frame.specs.Frame.{FrameValue}
+use Rattle.std.specs.Prelude.{◌≡◌, ◌≤◌, ◌↔◌, [], IfSome, IsTrue, true}
 use Rattle.tap_ledger.specs.declared.fate.Fate.TheVariants.{Guest}
 use Rattle.tap_ledger.specs.declared.hand.Hand.{Hand}
 use Rattle.tap_ledger.specs.declared.hand.Hand.TheVariants.{Off}

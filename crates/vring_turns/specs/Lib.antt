@@ -6,6 +6,7 @@ pub mod TxTurn
 pub mod TxRun
 pub mod RxTurn
 pub mod Hands
+pub mod RxRun
 pub mod Example
 pub mod TxExamples
 pub mod RxExamples

@@ -7,8 +7,6 @@ use Rattle.tap_ledger.specs.declared.act.Act.{Act}
 use Rattle.tap_ledger.specs.declared.act.Act.TheVariants as act
 use Rattle.tap_ledger.specs.declared.hand.Hand.{Hand}
 use Rattle.tap_ledger.specs.declared.hand.Hand.TheVariants.{Got, NotReady}
-use Rattle.tap_ledger.specs.declared.fate.Fate.TheVariants.{Discarded}
-use Rattle.tap_ledger.specs.declared.fate.Cause.TheVariants.{Overrun}
 use Rattle.vring_turns.specs.declared.end.End.{End}
 use Rattle.vring_turns.specs.declared.end.End.TheVariants.{Idle, Short, Stopped}
 use Rattle.vring_turns.specs.declared.stage.RxStage.{RxStage}

@@ -8,7 +8,7 @@ use Rattle.tap_frame.specs.Frame.{FrameValue}
 use Rattle.tap_ledger.specs.declared.act.Act.{Act}
 use Rattle.tap_ledger.specs.declared.act.Act.TheVariants as act
 use Rattle.tap_ledger.specs.declared.fate.Fate.{Fate}
-use Rattle.tap_ledger.specs.declared.fate.Fate.TheVariants.{Guest, Discarded}
+use Rattle.tap_ledger.specs.declared.fate.Fate.TheVariants.{Discarded}
 use Rattle.tap_ledger.specs.declared.fate.Cause.TheVariants.{Overrun}
 use Rattle.tap_ledger.specs.declared.hand.Hand.{Hand}
 use Rattle.tap_ledger.specs.declared.hand.Hand.TheVariants as hand

@@ -1,9 +1,11 @@
 -- This project's own: what a whole transmit turn did, over the list of its steps.
-use Rattle.std.specs.Prelude.{◌≡◌, ℕ, ◌+◌, List, [], ◌∷◌, ◌++◌, length, map, Some}
+use Rattle.std.specs.Prelude.{◌≡◌, ℕ, ◌+◌, List, [], ◌∷◌, ◌++◌, length, map, Bool, true, false, is_some, Some}
+use Rattle.std.specs.Option.{option_to_list}
+use Rattle.tap_frame.specs.Frame.{FrameValue}
 use Rattle.tap_ledger.specs.declared.act.Act.{Act}
 use Rattle.vhost_queue.specs.Queue.{Queue}
 use Rattle.vring_turns.specs.declared.stage.TxStage.{TxStage}
-use Rattle.vring_turns.specs.declared.stage.TxStage.TheVariants.{Copy}
+use Rattle.vring_turns.specs.declared.stage.TxStage.TheVariants.{Copy, Give}
 use Rattle.vring_turns.specs.Ring.{Gathered}
 use Rattle.vring_turns.specs.TransmitBytes.{counted}
 use Rattle.vring_turns.specs.TxTurn.{TxTurn, TxState, tx_step}
@@ -56,3 +58,40 @@ pub record TxDid (t t' : TxTurn) (q q' : Queue) (read : List Gathered) : Type 0 
 abbrev pub TransmitTurnsDo : Type 0
 TransmitTurnsDo =
     (t t' : TxTurn) (q q' : Queue) (ms : List Moment) → IsTxRun t q ms t' q' → TxDid t t' q q' (read_by ms)
+
+-- Frames.
+
+-- the frame that a step accepts, and the one that it gives
+abbrev pub accepts_at : TxStage → TxState → List FrameValue
+accepts_at Copy after = option_to_list after.turn.held
+accepts_at other after = []
+
+abbrev pub gives_at : TxStage → TxState → List FrameValue
+gives_at Give before = option_to_list before.turn.held
+gives_at other before = []
+
+abbrev pub accepted_by : List Moment → List FrameValue
+accepted_by [] = []
+accepted_by (m ∷ ms) = accepts_at m.before.turn.stage m.after ++ accepted_by ms
+
+abbrev pub given_by : List Moment → List FrameValue
+given_by [] = []
+given_by (m ∷ ms) = gives_at m.before.turn.stage m.before ++ given_by ms
+
+-- a turn holds a frame where it is to give one, and else none
+abbrev pub is_giving : TxStage → Bool
+is_giving Give = true
+is_giving other = false
+
+abbrev pub HoldsRightly : TxTurn → Type 0
+HoldsRightly t = is_some t.held ≡ is_giving t.stage
+
+-- what was held and what was accepted was given, in this order, or is held; and a turn that held rightly does
+pub record PassesFrames (t t' : TxTurn) (accepted given : List FrameValue) : Type 0 where
+  pub frames : given ++ option_to_list t'.held ≡ option_to_list t.held ++ accepted
+  pub rightly : HoldsRightly t'
+
+abbrev pub TransmitTurnsPass : Type 0
+TransmitTurnsPass =
+    (t t' : TxTurn) (q q' : Queue) (ms : List Moment)
+    → HoldsRightly t → IsTxRun t q ms t' q' → PassesFrames t t' (accepted_by ms) (given_by ms)

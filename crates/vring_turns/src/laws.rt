@@ -1,13 +1,23 @@
 //! Worked rings, as contracts of functions that do nothing.
 ghost use Rattle.vring_turns.specs.TxExamples.{OneIsSent, NoneIsSent, HaltPublishes, ShortIsRefused, ManyTakeTwoTurns};
-ghost use Rattle.vring_turns.specs.TxRun.{TransmitTurnsDo};
+ghost use Rattle.vring_turns.specs.TxRun.{TransmitTurnsDo, TransmitTurnsPass};
+ghost use Rattle.vring_turns.specs.RxRun.{ReceiveTurnsDo};
 ghost use Rattle.vring_turns.specs.RxExamples.{TwoChainsTakeIt, OneChainIsShort, OneChainOverruns, BadTableStops, NoChainIsShort};
 
 /// What a whole transmit turn did, whatever others write into the memory between its steps: each chain
 /// whose bytes were read is a packet of its bytes, and is published or done with length 0, in the order in
-/// which they were read, behind all that was published or done before; and nothing else is.
+/// which they were read, behind all that was published or done before; and nothing else is. The frames
+/// that were accepted are given in their order, or the last of them is held.
 pub fn transmit_turns()
-    ensures { TransmitTurnsDo }
+    ensures chains { TransmitTurnsDo }
+    ensures frames { TransmitTurnsPass }
+{}
+
+/// What a whole receive turn did, whatever others write into the memory between its steps: packets and
+/// bytes are those of the frames that left the line; the chains into which frames were copied are published
+/// or done with the bytes that they got, in their order, behind all that was before; and no other chain is.
+pub fn receive_turns()
+    ensures { ReceiveTurnsDo }
 {}
 
 /// Receive turns on worked rings.

@@ -5,9 +5,9 @@
 //! `specs/Ring.antt` has one change of a ring for each kind of step: notices on or off, a fetch with
 //! what it found, a rewind, a publication. `specs/ReceiveImage.antt` and `specs/TransmitBytes.antt`
 //! have the copies into and out of chains. `specs/TxTurn.antt` and `specs/RxTurn.antt` put them in
-//! their order: where a turn stands, which step comes next, and when it ends. `specs/TxRun.antt` says
-//! what a whole transmit turn did. `specs/TxExamples.antt`, `specs/TxCases.antt`, `specs/RxExamples.antt`,
-//! `specs/RxGathering.antt` and `specs/RxPublishing.antt` are worked rings.
+//! their order: where a turn stands, which step comes next, and when it ends. `specs/TxRun.antt` and
+//! `specs/RxRun.antt` say what a whole turn did. `specs/TxExamples.antt`, `specs/TxCases.antt`,
+//! `specs/RxExamples.antt`, `specs/RxGathering.antt` and `specs/RxPublishing.antt` are worked rings.
 #![tactic(auto)]
 
 mod cases;
@@ -18,6 +18,6 @@ mod step;
 
 pub use crate::cases::{gathering_examples, publishing_examples, transmit_cases};
 pub use crate::end::{End, TurnEnd};
-pub use crate::laws::{receive_examples, transmit_examples, transmit_turns};
+pub use crate::laws::{receive_examples, receive_turns, transmit_examples, transmit_turns};
 pub use crate::stage::{After, RxStage, TxStage};
 pub use crate::step::Step;

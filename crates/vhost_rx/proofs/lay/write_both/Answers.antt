@@ -1,4 +1,4 @@
-use Rattle.std.proofs.Common.{◌≡◌, ◌+◌, length, ◌∙◌, ap}
+use Rattle.std.proofs.Common.{◌+◌, length, ◌∙◌, ap}
 use Rattle.guest_mem.specs.Memory.{Contents, written}
 use Rattle.vhost_rx.proofs.Writes.{twice}
 use Rattle.vhost_rx.proofs.lay.write_both.Goals as goal

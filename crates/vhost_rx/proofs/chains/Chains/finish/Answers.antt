@@ -1,5 +1,4 @@
 use Rattle.std.proofs.Common.{◌≡◌, ap, sym, ◌∙◌, length, arith}
-use Rattle.vring_turns.specs.Ring.{with_all_done}
 use Rattle.vring_turns.specs.ReceiveImage.{shares}
 use Rattle.vhost_rx.specs.Kept.{kept_shares}
 use Rattle.vhost_rx.proofs.Splits.{length-split_into, shares-split_into}

@@ -1,4 +1,4 @@
-use Rattle.std.proofs.Common.{◌≡◌, List, ◌++◌, All, IsTrue, ap, sym, ◌∙◌, subst}
+use Rattle.std.proofs.Common.{List, ◌++◌, All, IsTrue, ap, sym, ◌∙◌, subst}
 use Rattle.guest_mem.specs.Memory.{Contents, covers}
 use Rattle.vring_split.specs.declared.segment.Segment.{Segment}
 use Rattle.vring_walk.specs.Spread.{laid}

@@ -1,4 +1,4 @@
-use Rattle.std.proofs.Common.{◌≡◌, ap, sym, ◌∙◌, length}
+use Rattle.std.proofs.Common.{ap, sym, ◌∙◌, length}
 use Rattle.vhost_rx.proofs.Splits.{length-split_into}
 use Rattle.vhost_rx.proofs.chains.Chains.len.Goals as goal
 

@@ -1,4 +1,4 @@
-use Rattle.std.proofs.Common.{◌≡◌, ℕ, ap, sym, ◌∙◌, subst}
+use Rattle.std.proofs.Common.{ap, sym, ◌∙◌, subst}
 use Rattle.vhost_rx.specs.Worker.{Worker, IsSteady}
 use Rattle.vhost_rx.specs.View.{worker_of}
 use Rattle.vhost_rx.proofs.Copied.{copied_steady}

@@ -1,13 +1,9 @@
-use Rattle.std.proofs.Common.{◌≡◌, ◌∙◌, IfSome, refl, sym, ap, subst}
-use Rattle.tap_frame.specs.Frame.{FrameValue}
-use Rattle.tap_ledger.specs.declared.fate.Fate.{Fate}
+use Rattle.std.proofs.Common.{◌≡◌, ◌∙◌, refl, sym, ap, subst}
 use Rattle.tap_ledger.specs.declared.hand.Hand.TheVariants.{Off}
-use Rattle.tap_ledger.specs.Queue.{QueueState, finished}
 use Rattle.vring_turns.specs.declared.stage.RxStage.{RxStage}
-use Rattle.vring_turns.specs.declared.stage.RxStage.TheVariants as stage
 use Rattle.vring_turns.specs.RxTurn.{rx_next, rx_outs}
 use Rattle.vring_turns.specs.Hands.{MovesAt}
-use Rattle.vhost_rx.specs.Worker.{state_of, holds_at, Stepped}
+use Rattle.vhost_rx.specs.Worker.{state_of, holds_at}
 use Rattle.vhost_rx.proofs.Events.{out_step, discard_step, back_step, at_memory, discarded}
 use Rattle.vhost_rx.proofs.worker.RxWorker.event.Goals as goal
 

@@ -1,8 +1,8 @@
-use Rattle.std.proofs.Common.{◌≡◌, ℕ, false, ap, sym, ◌∙◌}
+use Rattle.std.proofs.Common.{ℕ, false, ap, ◌∙◌}
 use Rattle.vhost_queue.specs.Queue.{Reserved}
 use Rattle.vring_turns.specs.Ring.{found}
 use Rattle.vring_turns.specs.declared.stage.RxStage.TheVariants as stage
-use Rattle.vhost_rx.specs.Worker.{Worker, ring_of}
+use Rattle.vhost_rx.specs.Worker.{ring_of}
 use Rattle.vhost_rx.proofs.Fetched.{settled_steady, fetch_gathers}
 use Rattle.vhost_rx.proofs.worker.RxWorker.fetch.Goals as goal
 

@@ -1,8 +1,8 @@
-use Rattle.std.proofs.Common.{◌≡◌, ℕ, true, refl, ap, sym, ◌∙◌}
+use Rattle.std.proofs.Common.{ℕ, true, ap, sym, ◌∙◌}
 use Rattle.vhost_queue.specs.Queue.{Reserved}
 use Rattle.vring_turns.specs.Ring.{found, room_in}
 use Rattle.vring_turns.specs.declared.stage.RxStage.TheVariants as stage
-use Rattle.vhost_rx.specs.Worker.{Worker, IsSteady, ring_of}
+use Rattle.vhost_rx.specs.Worker.{IsSteady, ring_of}
 use Rattle.vhost_rx.proofs.Fetched.{settled_steady, again_gathers}
 use Rattle.vhost_rx.proofs.worker.RxWorker.fetch_again.Goals as goal
 use Rattle.vhost_rx.proofs.worker.RxWorker.fetch_again.Goals.{After-told_of}

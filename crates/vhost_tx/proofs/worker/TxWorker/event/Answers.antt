@@ -1,4 +1,4 @@
-use Rattle.std.proofs.Common.{◌≡◌, sym, ap, ◌∙◌}
+use Rattle.std.proofs.Common.{sym, ap, ◌∙◌}
 use Rattle.vring_turns.specs.TxTurn.{tx_next}
 use Rattle.vhost_tx.specs.Worker.{state_of}
 use Rattle.vhost_tx.proofs.worker.TxWorker.event.Goals as goal

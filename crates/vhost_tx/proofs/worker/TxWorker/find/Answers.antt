@@ -1,8 +1,5 @@
-use Rattle.std.proofs.Common.{rules, ◌≡◌, [], subst, sym, ap, ◌∙◌}
-use Rattle.guest_mem.specs.Memory.{covers, byte_at}
-use Rattle.vring_walk.specs.Fetch.{Fetches}
-use Rattle.vring_turns.specs.Ring.{LieIn}
-use Rattle.vhost_tx.specs.Kept.{chain_of}
+use Rattle.std.proofs.Common.{ap, ◌∙◌}
+use Rattle.guest_mem.specs.Memory.{covers}
 use Rattle.vhost_tx.proofs.Lies.{fetched_lies, none_lies}
 use Rattle.vhost_tx.proofs.worker.TxWorker.find.Goals as goal
 use Rattle.vhost_tx.proofs.worker.TxWorker.find.Goals.{in-Chain, in-Bad, in-Nothing}

@@ -1,5 +1,3 @@
-use Rattle.std.proofs.Common.{◌≡◌, subst, sym, ap, ◌∙◌}
-use Rattle.vhost_tx.specs.Worker.{IsSteady}
 use Rattle.vhost_tx.proofs.Steady.{off_steady}
 use Rattle.vhost_tx.proofs.worker.TxWorker.notices_off.Goals as goal
 

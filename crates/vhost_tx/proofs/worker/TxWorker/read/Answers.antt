@@ -1,8 +1,7 @@
-use Rattle.std.proofs.Common.{◌≡◌, ℕ, [], ◌∷◌, List, refl, ap, sym, ◌∙◌}
+use Rattle.std.proofs.Common.{[], ◌∷◌, List, refl, ap, sym, ◌∙◌}
 use Rattle.vring_split.specs.declared.segment.Segment.{Segment}
 use Rattle.vring_turns.specs.Ring.{Gathered}
 use Rattle.vhost_tx.specs.Kept.{chain_of}
-use Rattle.vhost_tx.specs.Copying.{IsRead}
 use Rattle.vhost_tx.proofs.worker.TxWorker.read.Goals as goal
 
 pub returns-clause-read : goal.returns-clause-read

@@ -1,4 +1,3 @@
-use Rattle.std.proofs.Common.{rules}
 use Rattle.vhost_tx.proofs.Told.{event_of-tx_told}
 use Rattle.vhost_tx.proofs.worker.TxWorker.step.Goals as goal
 
