@@ -8,8 +8,6 @@ use Rattle.vhost_queue.specs.Queue.{Queue}
 use Rattle.tap_ledger.specs.declared.act.Act.{Act}
 use Rattle.tap_ledger.specs.declared.act.Act.TheVariants as act
 use Rattle.tap_ledger.specs.declared.hand.Hand.TheVariants.{Off, NoMemory}
-use Rattle.tap_ledger.specs.declared.fate.Fate.TheVariants.{Discarded}
-use Rattle.tap_ledger.specs.declared.fate.Cause.TheVariants.{Overrun}
 use Rattle.vring_turns.specs.declared.end.End.TheVariants.{Idle, Short, Stopped}
 use Rattle.vring_turns.specs.declared.stage.RxStage.TheVariants as stage
 use Rattle.vring_turns.specs.Ring.{Gathered}
@@ -111,7 +109,7 @@ crowded_turn n =
 abbrev pub CrowdedAfterTwo : Type 0
 CrowdedAfterTwo =
     ((crowded_turn 30).0 ≡ act.Crowded ∷ act.Out (name_of 0) ∷ act.NotReady ∷ [])
-    × ((crowded_turn 1).1.turn.stage ≡ stage.Out (Discarded (Overrun 72 1024 10)))
+    × ((crowded_turn 1).1.turn.stage ≡ stage.Discard 10)
     × (rx_reported (crowded_turn 30).1 ≡ (1, 0, Some Idle))
     × ((crowded_turn 30).1.queue ≡ queue_on wide)
 
@@ -155,7 +153,7 @@ last_chain n = rx_steps n [] (record {
 abbrev pub QuotaOverruns : Type 0
 QuotaOverruns =
     ((last_chain 2).0 ≡ act.Fetch 1023 3 ∷ act.Out (name_of 0) ∷ [])
-    × ((last_chain 1).1.turn.stage ≡ stage.Out (Discarded (Overrun 72 1024 10)))
+    × ((last_chain 1).1.turn.stage ≡ stage.Discard 10)
     × ((last_chain 1).1.queue ≡ queue_on small)
 
 -- an index that jumps stops the ring; a queue of frames that is off makes no step
