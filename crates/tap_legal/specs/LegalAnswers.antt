@@ -95,7 +95,7 @@ is_no_device other = false
 abbrev pub has_text : Case → Front → ℕ → Name → List ℕ → Bool
 has_text c front room name bytes =
     option_map_or (λ (e : EntryAt).
-        option_map_or (λ f. bytes_eq (text_in front f room) bytes) (frame_of c.setup name e.at.len) true)
+    option_map_or (λ f. bytes_eq (text_in front f room) bytes) (frame_of c.setup name e.at.len) true)
     (entry_named c name) true
 
 -- a version from SEEN on, of the phase, and below the next one that this actor publishes

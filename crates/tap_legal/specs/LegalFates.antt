@@ -33,7 +33,7 @@ is_accepted other = false
 abbrev pub is_sent : Case → Name → Bool
 is_sent c n =
     option_map_or (λ (a : Asked). a.told.actor == n.actor && n.part == 0 && is_accepted a.command)
-        (asked_at c n.turn) false
+    (asked_at c n.turn) false
 
 -- ---- one fate
 
@@ -120,4 +120,4 @@ h_fails c rs =
     ++ fails_each of_entry (is_taken_once c) c.entries
     ++ fails_each of_entry (λ (e : EntryAt). fits_overrun e.at.len e.at.fate) c.entries
     ++ (if is_whole rs then fails_each of_file (has_packets c rs) c.files ++ flat_map
-        (file_packets_fail c rs) c.files else [])
+    (file_packets_fail c rs) c.files else [])

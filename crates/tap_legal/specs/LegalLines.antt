@@ -26,7 +26,7 @@ is_file d f = f.part.file == d.0
 abbrev pub is_entry_of : Told → ℕ → ℕ → EntryAt → Bool
 is_entry_of t epoch len e =
     e.at.name.actor == t.actor && e.at.name.turn == t.command && e.at.name.part == 0 && e.at.epoch == epoch
-        && e.at.len == len
+    && e.at.len == len
 
 abbrev pub stands_as : Case → Told → Answer → Bool
 stands_as c t (answer.Placed file place epoch len) =
@@ -38,9 +38,9 @@ abbrev pub is_placed : Case → EntryAt → Bool
 is_placed c e =
     e.at.name.part == 0
     && option_map_or
-        (λ (a : AnswerAt). a.told.actor == e.at.name.actor && option_map_or (λ p. p == e.at.place)
-        (put_in e.file a) false)
-       (answer_of c e.at.name.turn) false
+    (λ (a : AnswerAt). a.told.actor == e.at.name.actor && option_map_or (λ p. p == e.at.place)
+    (put_in e.file a) false)
+    (answer_of c e.at.name.turn) false
 
 abbrev pub is_next_place : EntryAt → EntryAt → Bool
 is_next_place d e = not (d.file == e.file) || e.at.place + d.line == d.at.place + e.line
@@ -99,8 +99,8 @@ reads_entry c a asked other = true
 abbrev pub copies_later : Case → StepAt → Bool
 copies_later c s =
     option_map_or
-        (λ name. option_map_or (λ e. option_map_or (λ t. is_after_placing c t e) (told_of_step c s) true)
-        (entry_named c name) true)
+    (λ name. option_map_or (λ e. option_map_or (λ t. is_after_placing c t e) (told_of_step c s) true)
+    (entry_named c name) true)
     (copied s.at.kind) true
 
 -- ---- epochs that end

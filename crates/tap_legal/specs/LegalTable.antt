@@ -78,8 +78,8 @@ own_ops c n = filter (λ (o : OpAt). not (is_learning o.op)) (ops_of c n)
 abbrev pub is_published : Case → AnswerAt → Bool
 is_published c a =
     option_map_or
-        (λ v. length (own_ops c a.told.command) == 1 && list_all (λ (o : OpAt). o.at.version == v)
-        (own_ops c a.told.command))
+    (λ v. length (own_ops c a.told.command) == 1 && list_all (λ (o : OpAt). o.at.version == v)
+    (own_ops c a.told.command))
     (version_in a.answer) true
 
 -- and each operation but a learning is one such answer.
@@ -87,7 +87,7 @@ abbrev pub is_answered : Case → OpAt → Bool
 is_answered c o =
     is_learning o.op
     || option_map_or (λ (a : AnswerAt). option_map_or (λ v. v == o.at.version) (version_in a.answer) false)
-       (answer_of c o.at.command) false
+    (answer_of c o.at.command) false
 
 -- Each refusal of a table command is the table's at SEEN. A resize alone has a `resize` line.
 abbrev pub is_refusal : Case → ℕ → Op → TapText → Bool
@@ -127,13 +127,13 @@ learns_frame c a asked x = true
 abbrev pub is_of_frame : Case → OpAt → Bool
 is_of_frame c o =
     option_map_or (λ (a : AnswerAt). learns_frame c a a.asked o.op) (answer_of c o.at.command)
-        (not (is_learning o.op))
+    (not (is_learning o.op))
 
 -- at most one for each.
 abbrev pub is_other_frame : Case → OpAt → OpAt → Bool
 is_other_frame c o p =
     not (is_learning o.op && is_learning p.op && o.at.command == p.at.command && option_map_or is_host
-        (option_map (λ (a : AnswerAt). a.answer) (answer_of c o.at.command)) false)
+    (option_map (λ (a : AnswerAt). a.answer) (answer_of c o.at.command)) false)
 
 -- A frame has one only where its file learns at a version from what the actor had seen before the command up to SEEN,
 -- and lacks one only where it doesn't at such a version.
@@ -142,7 +142,7 @@ may_learn c a (Some (command.Write file bytes)) =
     let learnt : Bool = list_any (λ (o : OpAt). is_learning o.op) (ops_of c a.told.command) in
     not (is_host a.answer)
     || some_version (seen_before c a.told) a.seen
-       (λ v. if learnt then learns (table_at c v) file else not (learns (table_at c v) file))
+    (λ v. if learnt then learns (table_at c v) file else not (learns (table_at c v) file))
 may_learn c a other = true
 
 -- ---- learnings of transmit turns, where the replay reached the turn's end
@@ -172,13 +172,13 @@ abbrev pub turn_learns : Case → Replays → AnswerAt → Bool
 turn_learns c rs a =
     let frames : ℕ = length (flows_of a.told.command rs) in
     not (list_any (λ file. not (may_learn_on c a frames (length (learnt_by c a.told.command)) file))
-        (files_of a.told.command rs))
+    (files_of a.told.command rs))
 
 abbrev pub turn_fails : Case → Replays → AnswerAt → Option Command → List ℕ
 turn_fails c rs a (Some (command.TxTurn vhost)) =
     if was_replayed a.told.command rs
     then unmatched (flows_of a.told.command rs) (learnt_by c a.told.command) ++
-        (if turn_learns c rs a then [] else a.line ∷ [])
+    (if turn_learns c rs a then [] else a.line ∷ [])
     else []
 turn_fails c rs a other = []
 

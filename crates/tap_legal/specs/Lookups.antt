@@ -106,12 +106,12 @@ is_attached_at t file epoch = option_map_or (λ e. e == epoch) (epoch_in t file)
 abbrev pub ends_it : Case → ℕ → ℕ → OpAt → Bool
 ends_it c file epoch o =
     is_attached_at (table_at c (o.at.version - 1)) file epoch && not
-        (is_attached_at (table_at c o.at.version) file epoch)
+    (is_attached_at (table_at c o.at.version) file epoch)
 
 abbrev pub attaches_it : Case → ℕ → ℕ → OpAt → Bool
 attaches_it c file epoch o =
     not (is_attached_at (table_at c (o.at.version - 1)) file epoch) && is_attached_at
-        (table_at c o.at.version) file epoch
+    (table_at c o.at.version) file epoch
 
 -- the operation that ends an epoch of a file
 abbrev pub ending_of : Case → ℕ → ℕ → Option OpAt

@@ -40,7 +40,7 @@ pub record Asked : Type 0 where
 abbrev pub asked_in : ℕ → List Line → List Asked
 asked_in phase lines =
     map (λ (l : Line). record
-        { told = record { phase = phase; actor = l.actor; command = l.number }; command = l.command }) lines
+    { told = record { phase = phase; actor = l.actor; command = l.number }; command = l.command }) lines
 
 -- the commands of all phases from a number on, in the order of their numbers
 abbrev pub asked_from : ℕ → List Phase → List Asked
@@ -129,8 +129,14 @@ ops_from s line phase (o ∷ os) =
 abbrev pub answer_at : List Asked → ℕ → ℕ → AnswerLine → AnswerAt
 answer_at asked line phase a =
     let told : Told = record { phase = phase; actor = a.actor; command = a.command } in
-    record { line = line; told = told; seen = a.seen; answer = a.answer; asked = asked_as told
-        (slice_get asked a.command) }
+    record {
+      line = line;
+      told = told;
+      seen = a.seen;
+      answer = a.answer;
+      asked = asked_as told
+          (slice_get asked a.command);
+    }
 
 abbrev pub answers_from : List Asked → ℕ → ℕ → List AnswerLine → List AnswerAt
 answers_from asked line phase [] = []
@@ -158,7 +164,7 @@ abbrev pub answers_at : List Asked → ℕ → ℕ → List PhasePart → List A
 answers_at asked line phase [] = []
 answers_at asked line phase (p ∷ ps) =
     answers_from asked (line + 1 + length p.ops) phase p.answers ++ answers_at asked (line + phase_lines p)
-        (phase + 1) ps
+    (phase + 1) ps
 
 -- the first line behind the phases
 abbrev pub behind_phases : ℕ → List PhasePart → ℕ
@@ -210,7 +216,7 @@ abbrev pub rings_at : ℕ → List RingPart → List RingAt
 rings_at line [] = []
 rings_at line (r ∷ rs) =
     record { line = line; vhost = r.vhost; ring = r.ring; lists = r.lists } ∷ rings_at
-        (line + 1 + list_lines r.lists) rs
+    (line + 1 + list_lines r.lists) rs
 
 -- the line of `end`
 abbrev pub end_line : Trace → ℕ

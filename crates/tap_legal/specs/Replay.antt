@@ -86,7 +86,7 @@ broken_at line r = record r { fails = r.fails ++ line ∷ []; broken = true }
 abbrev pub answers : Case → ℕ → Answer → Replay → Replay
 answers c command x r =
     let wrong : List ℕ = option_map_or (λ (a : AnswerAt). if same_answer a.answer x then [] else a.line ∷ [])
-        (answer_of c command) [] in
+    (answer_of c command) [] in
     record r { finished = command ∷ r.finished; fails = r.fails ++ wrong }
 
 -- the step is the wanted one, or the replay ends there
@@ -128,11 +128,11 @@ abbrev pub replay_bytes : Case → StepAt → Command → Replay → Option Repl
 replay_bytes c s (command.Poke guest addr bytes) r =
     let bad : Option ℕ = first_bad r.memory.regions addr (length bytes) in
     Some (if_step s (Some kind.Poke) r
-      (answers c s.at.command (option_map_or (λ b. answer.Fault b) bad answer.Done)
-       (record r { memory = if is_none bad then written r.memory addr bytes else r.memory })))
+    (answers c s.at.command (option_map_or (λ b. answer.Fault b) bad answer.Done)
+    (record r { memory = if is_none bad then written r.memory addr bytes else r.memory })))
 replay_bytes c s (command.Peek guest addr len) r =
     Some (if_step s (Some kind.Peek) r
-      (answers c s.at.command (peeked addr len r.memory (first_bad r.memory.regions addr len)) r))
+    (answers c s.at.command (peeked addr len r.memory (first_bad r.memory.regions addr len)) r))
 replay_bytes c s other r = None
 
 -- ---- a backend
@@ -146,7 +146,7 @@ abbrev pub back_wanted : Case → ℕ → ℕ → Option ℕ → Vhost → Conte
 back_wanted c vhost ring None v m t = if is_none (ring_at ring v.settings).file then Some answer.Done else None
 back_wanted c vhost ring (Some file) v m t =
     back_answer (ready_refusal ring m v.settings) (back_refusal t vhost ring (Some file))
-        (unfit_for (shape_of t file) v.settings)
+    (unfit_for (shape_of t file) v.settings)
 
 abbrev pub back_made : ℕ → Option ℕ → Contents → Vhost → Vhost
 back_made ring None m v = record v { settings = without_backend ring v.settings }
@@ -158,17 +158,17 @@ backed_as c s vhost ring file v (Some x) r =
 backed_as c s vhost ring file v None r =
     if_step s (Some (kind.Backend vhost ring true)) r
     (answers c s.at.command (answer.Version 0)
-        (record r { vhosts = with_at vhost (back_made ring file r.memory v) r.vhosts }))
+    (record r { vhosts = with_at vhost (back_made ring file r.memory v) r.vhosts }))
 
 abbrev pub replay_back : Case → StepAt → Command → Replay → Option Replay
 replay_back c s (command.Backend vhost ring file) r = do
   v ← at r.vhosts vhost
   a ← answer_of c s.at.command
   if is_none (turn_of ring v)
-    then Some
-        (backed_as c s vhost ring file v
-        (back_wanted c vhost ring file v r.memory (table_at c (version_for a a.answer))) r)
-    else None
+      then Some
+      (backed_as c s vhost ring file v
+      (back_wanted c vhost ring file v r.memory (table_at c (version_for a a.answer))) r)
+      else None
 replay_back c s other r = None
 
 -- ---- what a receive turn had in hand, read off the steps that come

@@ -82,7 +82,7 @@ tx_answer t chains = option_map (λ e. answer.Turn t.packets t.bytes (end_told e
 abbrev pub rx_left : Case → List StepAt → Under → Vhost → Replay → RxState × Act → Replay
 rx_left c ss u v r made =
     with_under c ss (record u { turning = Receiving made.0.turn }) made.0.queue made.0.memory
-        (rx_answer made.0.turn) v r
+    (rx_answer made.0.turn) v r
 
 -- the frame that a step accepted
 abbrev pub accepted_by : ℕ → Act → Option FrameValue → List Accepted
@@ -93,7 +93,7 @@ abbrev pub tx_left : Case → List StepAt → Under → List ChainText → Vhost
 tx_left c ss u chains v r made =
     let after : List ChainText = chains_after made.1 made.0.turn.held chains in
     with_under c ss (record u { turning = Sending made.0.turn after }) made.0.queue made.0.memory
-        (tx_answer made.0.turn after) v
+    (tx_answer made.0.turn after) v
     (record r { accepted = r.accepted ++ accepted_by u.command made.1 made.0.turn.held })
 
 -- ---- steps that aren't printed
@@ -134,20 +134,20 @@ abbrev pub quiet_of : Case → List StepAt → Under → Turning → Vhost → R
 quiet_of c ss u (Receiving t) v r =
     if is_quiet_rx t.stage
     then option_map_or (λ made. rx_left c ss u v (taken u t r) made)
-        (rx_step (hand_for c u t ss) (rx_state t v r.memory))
-      (fails_at_answer c u.command r)
+    (rx_step (hand_for c u t ss) (rx_state t v r.memory))
+    (fails_at_answer c u.command r)
     else r
 quiet_of c ss u (Sending t chains) v r =
     if is_quiet_tx t.stage
     then option_map_or (λ made. tx_left c ss u chains v r made) (tx_step (tx_state t v r.memory))
-        (fails_at_answer c u.command r)
+    (fails_at_answer c u.command r)
     else r
 
 -- one of them, where the turn on a ring is before one; there are at most two in a row
 abbrev pub quiet : Case → List StepAt → ℕ → ℕ → Replay → Replay
 quiet c ss vhost ring r =
     option_map_or (λ u. option_map_or (λ v. quiet_of c ss u u.turning v r) (at r.vhosts vhost) r)
-        (under_on vhost ring r) r
+    (under_on vhost ring r) r
 
 abbrev pub quietly : Case → List StepAt → ℕ → ℕ → Replay → Replay
 quietly c ss vhost ring r = if r.broken then r else quiet c ss vhost ring (quiet c ss vhost ring r)
@@ -175,9 +175,13 @@ abbrev pub begun : Case → StepAt → List StepAt → ℕ → ℕ → Vhost →
 begun c s ss vhost ring v (Some told) r =
     Some (if_step s (Some told.1) r (answers c s.at.command (answer.Turn 0 0 told.0 []) r))
 begun c s ss vhost ring v None r =
-    let u : Under = record
-        { vhost = vhost; command = s.at.command; file = file_on ring v; turning = turn_begun ring s.at.command
-        s.at.actor v } in
+    let u : Under = record {
+      vhost = vhost;
+      command = s.at.command;
+      file = file_on ring v;
+      turning = turn_begun ring s.at.command
+          s.at.actor v;
+    } in
     step_of c s ss u u.turning v (record r { files = r.files ++ (s.at.command, u.file) ∷ [] })
 
 -- the next step of the command's turn, or its first one, where no other turn is under way on the ring
@@ -203,13 +207,13 @@ abbrev pub replay_as : Case → StepAt → List StepAt → Command → Replay �
 replay_as c s ss k r =
     if list_any (λ n. n == s.at.command) r.finished then None
     else or_else (replay_turn c s ss k r)
-        (or_else (replay_back c s k r) (or_else (replay_call c s k r) (replay_bytes c s k r)))
+    (or_else (replay_back c s k r) (or_else (replay_call c s k r) (replay_bytes c s k r)))
 
 abbrev pub replay_step : Case → StepAt → List StepAt → Replay → Replay
 replay_step c s ss r =
     option_map_or (λ x. x)
     (option_and_then (λ (a : Asked). if a.told.actor == s.at.actor then replay_as c s ss a.command r else None)
-        (asked_at c s.at.command))
+    (asked_at c s.at.command))
     (broken_at s.line r)
 
 abbrev pub replay : Case → List StepAt → Replay → Replay

@@ -59,7 +59,7 @@ was_replayed command rs = list_any (λ (r : ℕ × Replay). list_any (λ n. n ==
 abbrev pub flows_of : ℕ → Replays → List ℕ
 flows_of command rs =
     flat_map (λ (r : ℕ × Replay). map (λ (a : Accepted). a.flow)
-        (filter (λ (a : Accepted). a.command == command) r.1.accepted)) rs
+    (filter (λ (a : Accepted). a.command == command) r.1.accepted)) rs
 
 -- the packets on a file
 abbrev pub packets_of : ℕ → Replays → List Packet

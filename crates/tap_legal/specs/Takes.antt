@@ -56,7 +56,13 @@ abbrev pub resized_in : ℕ → ℕ → AnswerAt → Option Resized
 resized_in version capacity a = told a.answer where
   told : Answer → Option Resized
   told (answer.Resized v claimed freed cut) = only_if (v == version) (record {
-    line = a.line + 1; told = a.told; version = v; capacity = capacity; claimed = claimed; freed = freed; cut = cut
+    line = a.line + 1;
+    told = a.told;
+    version = v;
+    capacity = capacity;
+    claimed = claimed;
+    freed = freed;
+    cut = cut;
   })
   told other = None
 

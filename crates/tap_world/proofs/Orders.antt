@@ -33,7 +33,7 @@ one_order s x number (p ∷ ps) (e ∷ es) [] w u v a b = absurd b
 one_order s x number (p ∷ ps) (e ∷ es) (d ∷ ds) w u v a b =
     let first = one_phase s x e d (begins number p w) a.0 b.0 a.1 b.1 a.2 b.2 in
     let moved : AreChosen s a.0 (number + 1) ps ds a.1 v =
-        subst (λ y. AreChosen s y (number + 1) ps ds a.1 v) (sym first.1)
-        (subst (λ t. AreChosen s b.0 (number + 1) ps ds t v) (sym first.2) b.4) in
+    subst (λ y. AreChosen s y (number + 1) ps ds a.1 v) (sym first.1)
+    (subst (λ t. AreChosen s b.0 (number + 1) ps ds t v) (sym first.2) b.4) in
     let rest = one_order s a.0 (number + 1) ps es ds a.1 u v a.4 moved in
     (cc (first.0, rest.0), rest.1)

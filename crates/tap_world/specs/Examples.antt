@@ -92,7 +92,7 @@ trace_of name = record {
 abbrev pub ends_in : List (List Event) → Option Trace
 ends_in es =
     option_map (project (setup_of scenario))
-        (run_phases (setup_of scenario) 0 scenario.phases es (opening (setup_of scenario)))
+    (run_phases (setup_of scenario) 0 scenario.phases es (opening (setup_of scenario)))
 
 -- the run and its trace
 abbrev pub RunHasTrace : Type 0

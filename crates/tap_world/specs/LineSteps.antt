@@ -9,17 +9,17 @@ use Rattle.tap_world.specs.Line.Standing.{Batched, Claimed, Cut, Out, Ready}
 
 -- the changes of a file
 pub data Change : Type 0 where
-  Claims : ℕ → Name → ℕ → ℕ → Change -- an actor gets a place for a frame, under an epoch, for so many bytes
-  Puts : ℕ → ℕ → Change -- an actor puts the frame at the place that it has claimed
-  Moves : Change -- the ring's front becomes the batch's last
-  Takes : ℕ → Change -- a vhost's worker takes the front in hand
-  PutsBack : ℕ → Change -- it puts it back
-  Leaves : Option ℕ → Fate → Change -- the batch's front leaves with a fate, as it is or from a worker's hand
-  Shuts : Change -- the gate is shut
-  Reopens : Change -- and opened under the next epoch
-  Sizes : ℕ → Change -- the ring has another capacity
-  Cuts : Change -- the ring's last entry is cut
-  Owned : Option ℕ → Change -- a vhost's worker owns the file, or none does
+  Claims : ℕ → Name → ℕ → ℕ → Change  -- an actor gets a place for a frame, under an epoch, for so many bytes
+  Puts : ℕ → ℕ → Change  -- an actor puts the frame at the place that it has claimed
+  Moves : Change  -- the ring's front becomes the batch's last
+  Takes : ℕ → Change  -- a vhost's worker takes the front in hand
+  PutsBack : ℕ → Change  -- it puts it back
+  Leaves : Option ℕ → Fate → Change  -- the batch's front leaves with a fate, as it is or from a worker's hand
+  Shuts : Change  -- the gate is shut
+  Reopens : Change  -- and opened under the next epoch
+  Sizes : ℕ → Change  -- the ring has another capacity
+  Cuts : Change  -- the ring's last entry is cut
+  Owned : Option ℕ → Change  -- a vhost's worker owns the file, or none does
 
 -- ---- the line
 

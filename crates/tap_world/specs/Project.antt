@@ -78,7 +78,7 @@ abbrev pub place_lines : ℕ → List Entry → List PlaceLine
 place_lines place [] = []
 place_lines place (e ∷ es) =
     record { place = place; epoch = e.epoch; name = e.name; len = e.len; fate = fate_of e.stands } ∷ place_lines
-        (place + 1) es
+    (place + 1) es
 
 abbrev pub file_part : ℕ × File → FilePart
 file_part f = record { file = f.0; claimed = claimed f.1; freed = freed f.1; lines = place_lines f.1.first f.1.line }

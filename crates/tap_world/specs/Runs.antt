@@ -94,7 +94,7 @@ abbrev pub next_of : Setup → World → ℕ → Actor → Option Numbered → N
 next_of s w actor a None = Ended
 next_of s w actor a (Some c) =
     option_map_or (λ kind. if_allowed s w (record { actor = actor; command = c.number; kind = kind }))
-        (next_kind w a.doing c.command) Waits
+    (next_kind w a.doing c.command) Waits
 
 abbrev pub next : Setup → World → ℕ → Next
 next s w actor = option_map_or (λ (a : Actor). next_of s w actor a (current a.script)) (slice_get w.actors actor) Ended

@@ -52,8 +52,10 @@ abbrev pub with_declaration : Setup → Declaration → Setup
 with_declaration s (declaration.File file capacity first_place) =
     record s { files = put_at file (record { capacity = capacity; first = first_place }) s.files }
 with_declaration s (declaration.Region guest addr len) =
-    record s { guests = put_at guest
-        (unwrap_or (at s.guests guest) [] ++ record { addr = addr; len = len } ∷ []) s.guests }
+    record s {
+      guests = put_at guest
+          (unwrap_or (at s.guests guest) [] ++ record { addr = addr; len = len } ∷ []) s.guests;
+    }
 with_declaration s (declaration.Vhost vhost guest) = record s { vhosts = put_at vhost guest s.vhosts }
 with_declaration s (declaration.Prog program code) = record s { programs = s.programs ++ (program, code) ∷ [] }
 with_declaration s (declaration.Flows name limit age) = record s { flows = slice_set s.flows name (limit, age) }
@@ -78,7 +80,7 @@ pub record Numbered : Type 0 where
 abbrev pub script_in : Phase → ℕ → List Numbered
 script_in p actor =
     map (λ (l : Line). record { number = l.number; command = l.command })
-        (filter (λ (l : Line). l.actor == actor) p.lines)
+    (filter (λ (l : Line). l.actor == actor) p.lines)
 
 -- the line of a command's number: they are numbered from 0 over all phases
 abbrev pub line_of : Setup → ℕ → Option Line

@@ -60,7 +60,7 @@ abbrev pub looks_to_back : Table → World → ℕ → Command → Option Effect
 looks_to_back t w actor (command.Backend vhost ring file) = do
   v ← at w.vhosts vhost
   only_if (is_none w.writer && (not (is_ring ring) || is_none (turn_of ring v)))
-    (back_seen w actor vhost ring v (back_refusal t vhost ring file))
+      (back_seen w actor vhost ring v (back_refusal t vhost ring file))
 looks_to_back t w actor other = None
 
 -- it ends, and gives back what it holds
@@ -99,8 +99,8 @@ unsets_back w actor seen vhost ring v m None None =
     back_ends w actor seen vhost ring None v m answer.Done (Some (kind.Backend vhost ring false))
 unsets_back w actor seen vhost ring v m None (Some file) =
     record (only
-        (Goes seen (if ring == 0 then Unbacked file else Released file) (found.Step (kind.Backend vhost ring true)))
-        w) {
+    (Goes seen (if ring == 0 then Unbacked file else Released file) (found.Step (kind.Backend vhost ring true)))
+    w) {
       guests = OnGuest v.guest m (Some (kind.Backend vhost ring true));
       vhosts = OnVhost vhost (record v { settings = without_backend ring v.settings });
     }
@@ -131,9 +131,9 @@ abbrev pub publishes_back : World → Doing → Command → Option Effect
 publishes_back w (Backed file) (command.Backend vhost ring asked) =
     let x : Op = op.Back file (side_of ring) (Some vhost) in
     Some (if ring == 0
-      then record
-          (only (Goes (newest w + 1) (Owns file (newest w + 1)) (found.Version (newest w + 1))) w) { ops = x ∷ [] }
-      else record (back_over w (newest w + 1) vhost ring (newest w + 1)) { ops = x ∷ [] })
+    then record
+    (only (Goes (newest w + 1) (Owns file (newest w + 1)) (found.Version (newest w + 1))) w) { ops = x ∷ [] }
+    else record (back_over w (newest w + 1) vhost ring (newest w + 1)) { ops = x ∷ [] })
 publishes_back w (Disowned file) (command.Backend vhost ring asked) =
     Some (record (back_over w (newest w + 1) vhost ring (newest w + 1)) { ops = op.Back file (side_of ring) None ∷ [] })
 publishes_back w (Released file) (command.Backend vhost ring asked) =
@@ -144,8 +144,8 @@ publishes_back w doing c = None
 abbrev pub owns : World → ℕ → Doing → Command → Option Effect
 owns w seen (Owns file version) (command.Backend vhost ring asked) =
     Some (record
-        (back_over w seen vhost ring version)
-        { files = (on_file file (Owned (Some vhost)) (Ends seen answer.Done) w).files })
+    (back_over w seen vhost ring version)
+    { files = (on_file file (Owned (Some vhost)) (Ends seen answer.Done) w).files })
 owns w seen (Unbacked file) (command.Backend vhost ring asked) =
     Some (on_file file (Owned None) (Goes seen (Disowned file) (found.Owner None)) w)
 owns w seen doing c = None

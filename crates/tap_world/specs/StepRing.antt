@@ -28,7 +28,7 @@ abbrev pub claims : World → ℕ → ℕ → ℕ → Doing → Option Effect
 claims w actor n seen (Routed file epoch len) = do
   f ← at w.files file
   Some (on_file file (Claims actor (name_of actor n) epoch len)
-    (Goes seen (Placed file (claimed f) epoch len) (found.Place file (claimed f) epoch)) w)
+      (Goes seen (Placed file (claimed f) epoch len) (found.Place file (claimed f) epoch)) w)
 claims w actor n seen doing = None
 
 -- Ready: the frame is put, and the send is done
@@ -149,7 +149,7 @@ meets_worker w seen doing = None
 abbrev pub hosts : World → ℕ → ℕ → ℕ → Doing → Option Effect
 hosts w actor n seen (Hosts file ether true) =
     Some (record
-        (only (Goes seen (Learns file ether) (found.Moved (name_of actor n))) w) { hosts = name_of actor n ∷ [] })
+    (only (Goes seen (Learns file ether) (found.Moved (name_of actor n))) w) { hosts = name_of actor n ∷ [] })
 hosts w actor n seen (Hosts file ether false) =
     Some (record (only (Ends seen (answer.Host (length ether) (fnv_of ether))) w) { hosts = name_of actor n ∷ [] })
 hosts w actor n seen doing = None

@@ -138,7 +138,7 @@ publishes_op s w actor doing c = do
 abbrev pub learns_flow : World → ℕ → List ℕ → Effect
 learns_flow w file ether =
     publishes_with w (op.Learn file (hash ether)) w.writer
-        (λ version. Ends version (answer.Host (length ether) (fnv_of ether)))
+    (λ version. Ends version (answer.Host (length ether) (fnv_of ether)))
 
 -- the row of Publish
 abbrev pub publishes : Setup → World → ℕ → Doing → Command → Option Effect

@@ -59,8 +59,8 @@ tx_event w actor seen vhost file chains v made =
     let step : Option Kind = kind_of vhost 1 made.1 in
     let after : List ChainText = chains_after made.1 made.0.turn.held chains in
     record (only
-        (tx_onward seen file made.0.turn after (found_by step (held_name made.0.turn.held))
-        (tx_over made.0.turn.stage)) w) {
+    (tx_onward seen file made.0.turn after (found_by step (held_name made.0.turn.held))
+    (tx_over made.0.turn.stage)) w) {
       guests = OnGuest v.guest made.0.memory step;
       vhosts = OnVhost vhost (left 1 actor (is_some (tx_over made.0.turn.stage)) made.0.queue v);
     }
@@ -74,8 +74,8 @@ abbrev pub tx_begins : World → ℕ → ℕ → ℕ → ℕ → Vhost → Conte
 tx_begins w actor n seen vhost v m = do
   file ← v.settings.tx.file
   if is_free 1 v && is_none v.settings.tx.queue.stopped
-    then tx_steps_on w actor seen vhost file (tx_begun (hdr_of v.settings) (name_of actor n)) [] v m
-    else None
+      then tx_steps_on w actor seen vhost file (tx_begun (hdr_of v.settings) (name_of actor n)) [] v m
+      else None
 
 -- HostIn: the accepted frame is with the host, and the actor looks next
 abbrev pub gives : World → ℕ → ℕ → TxTurn → List ChainText → Vhost → Contents → Option Effect
@@ -88,7 +88,7 @@ gives w seen file t chains v m = do
 abbrev pub looks_at_flow : Setup → World → Doing → Option Effect
 looks_at_flow s w (Given file t chains f) =
     Some (only (Goes (newest w) (if learns (table s w) file then Teaches file t chains f else Transmits file t chains)
-      (found.Version (newest w))) w)
+    (found.Version (newest w))) w)
 looks_at_flow s w doing = None
 
 -- Publish, of the learning: the writer is free
@@ -96,7 +96,7 @@ abbrev pub teaches : World → Doing → Option Effect
 teaches w (Teaches file t chains f) =
     only_if (is_none w.writer)
     (record (only (Goes (newest w + 1) (Transmits file t chains) (found.Version (newest w + 1))) w)
-      { ops = op.Learn file (hash f.made) ∷ [] })
+    { ops = op.Learn file (hash f.made) ∷ [] })
 teaches w doing = None
 
 -- ---- the rows Fetch, Copy, PublishUsed, Notices, Hand, PutBack, Out and HostIn of turns

@@ -161,7 +161,7 @@ finds_no_frame w actor seen vhost file t v m = do
   f ← at w.files file
   made ← rx_step (hand.NotReady (front_place f)) (rx_state t v m)
   only_if (is_none (first_that in_batch f.line) && is_none (ready_front f.line))
-    (rx_event w actor seen vhost file v NoFile (found.NotReady (front_place f)) made)
+      (rx_event w actor seen vhost file v NoFile (found.NotReady (front_place f)) made)
 
 -- what a step changes of the file: the frame in hand leaves with its fate, or is put back
 abbrev pub rx_change : ℕ → ℕ → RxTurn → RxStage → OnFiles
@@ -187,5 +187,5 @@ abbrev pub rx_begins : World → ℕ → ℕ → ℕ → Vhost → Contents → 
 rx_begins w actor seen vhost v m = do
   file ← v.settings.rx.file
   if is_free 0 v && is_none v.settings.rx.queue.stopped
-    then rx_steps_on w actor seen vhost file (rx_begun v.settings.mrg (hdr_of v.settings)) v m
-    else None
+      then rx_steps_on w actor seen vhost file (rx_begun v.settings.mrg (hdr_of v.settings)) v m
+      else None

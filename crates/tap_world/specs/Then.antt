@@ -2,7 +2,6 @@
 use Rattle.std.specs.Prelude.{Option, Some, None, Bool, true, false}
 
 infixl 10 ◌>>=◌
-
 -- one after another: none where the first is none
 abbrev pub ◌>>=◌ : {A B : Type 0} → Option A → (A → Option B) → Option B
 None >>= f = None

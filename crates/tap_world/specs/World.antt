@@ -18,30 +18,30 @@ use Rattle.tap_world.specs.Guests.{Guest, Vhost}
 
 -- How far a command has come, with the file that it is about.
 pub data Doing : Type 0 where
-  Begun : Doing -- no event yet
-  Changes : Doing -- it changes the table alone, and is to publish
-  Opens : ℕ → Doing -- an attach, to open the gate
-  Opened : ℕ → Doing -- to publish
-  Withdraws : ℕ → Doing -- a detach, to publish
-  Withdrawn : ℕ → ℕ → Doing -- to shut the gate; and the version that it published
-  Purges : ℕ → ℕ → Doing -- to empty batch and ring
-  Resizes : ℕ → ℕ → Doing -- a resize, to change the capacity to this one
-  Shrinks : ℕ → ℕ → ℕ → Doing -- to cut what is over, and to publish; the claim count at its resize, and its cuts so far
-  Routed : ℕ → ℕ → ℕ → Doing -- a send with a row: its file and epoch, and the length that is kept
-  Placed : ℕ → ℕ → ℕ → ℕ → Doing -- a send with a place: file, place, epoch and length
-  Reads : ℕ → ℕ → Front → Doing -- a read: its room, and what stands in front of frames
-  Hosts : ℕ → List ℕ → Bool → Doing -- a write of these Ethernet bytes, and whether they are learnt
-  Learns : ℕ → List ℕ → Doing -- the frame is with the host, and its flow is to be learnt
-  Backs : Option TapText → Doing -- a backend, to be set or unset in the ring; and the table's refusal
-  Backed : ℕ → Doing -- it is set in the ring, to publish
-  Owns : ℕ → ℕ → Doing -- published as this version, to make the worker the owner
-  Unbacked : ℕ → Doing -- it is unset in a receive ring, to give the file back
-  Disowned : ℕ → Doing -- it is given back, to publish
-  Released : ℕ → Doing -- it is unset in a transmit ring, to publish
-  Receives : ℕ → RxTurn → Doing -- a receive turn on a file
-  Transmits : ℕ → TxTurn → List ChainText → Doing -- a transmit turn on a file, and what became of its chains
-  Given : ℕ → TxTurn → List ChainText → FrameValue → Doing -- its frame is with the host, to look
-  Teaches : ℕ → TxTurn → List ChainText → FrameValue → Doing -- the frame's flow is to be learnt
+  Begun : Doing  -- no event yet
+  Changes : Doing  -- it changes the table alone, and is to publish
+  Opens : ℕ → Doing  -- an attach, to open the gate
+  Opened : ℕ → Doing  -- to publish
+  Withdraws : ℕ → Doing  -- a detach, to publish
+  Withdrawn : ℕ → ℕ → Doing  -- to shut the gate; and the version that it published
+  Purges : ℕ → ℕ → Doing  -- to empty batch and ring
+  Resizes : ℕ → ℕ → Doing  -- a resize, to change the capacity to this one
+  Shrinks : ℕ → ℕ → ℕ → Doing  -- to cut what is over, and to publish; the claim count at its resize, and its cuts
+  Routed : ℕ → ℕ → ℕ → Doing  -- a send with a row: its file and epoch, and the length that is kept
+  Placed : ℕ → ℕ → ℕ → ℕ → Doing  -- a send with a place: file, place, epoch and length
+  Reads : ℕ → ℕ → Front → Doing  -- a read: its room, and what stands in front of frames
+  Hosts : ℕ → List ℕ → Bool → Doing  -- a write of these Ethernet bytes, and whether they are learnt
+  Learns : ℕ → List ℕ → Doing  -- the frame is with the host, and its flow is to be learnt
+  Backs : Option TapText → Doing  -- a backend, to be set or unset in the ring; and the table's refusal
+  Backed : ℕ → Doing  -- it is set in the ring, to publish
+  Owns : ℕ → ℕ → Doing  -- published as this version, to make the worker the owner
+  Unbacked : ℕ → Doing  -- it is unset in a receive ring, to give the file back
+  Disowned : ℕ → Doing  -- it is given back, to publish
+  Released : ℕ → Doing  -- it is unset in a transmit ring, to publish
+  Receives : ℕ → RxTurn → Doing  -- a receive turn on a file
+  Transmits : ℕ → TxTurn → List ChainText → Doing  -- a transmit turn on a file, and what became of its chains
+  Given : ℕ → TxTurn → List ChainText → FrameValue → Doing  -- its frame is with the host, to look
+  Teaches : ℕ → TxTurn → List ChainText → FrameValue → Doing  -- the frame's flow is to be learnt
 
 -- an actor: the newest version that it has seen, its commands that haven't ended, and how far the first of them has
 -- come
