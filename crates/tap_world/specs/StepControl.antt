@@ -125,6 +125,20 @@ abbrev pub with_books : Kind → Vhost → Contents → Option Books → (Books 
 with_books k v m None call = undriven k v m answer.NoDriver
 with_books k v m (Some b) call = call b
 
+-- a call of a ring's driver
+abbrev pub driver_call : Command → Vhost → Contents → Option Call
+driver_call (command.DriveAt vhost ring addr) v m = Some (drives vhost ring addr v m)
+driver_call (command.PostIn vhost ring lens) v m =
+    Some (with_books (kind.Post vhost ring) v m (driver_of ring v)
+    (λ b. posts vhost ring (post_in_refusal lens b) (length lens) (posted_in b lens m) b v m))
+driver_call (command.PostOut vhost ring bytes) v m =
+    Some (with_books (kind.Post vhost ring) v m (driver_of ring v)
+    (λ b. posts vhost ring (post_out_refusal (length bytes) b) (full_pieces (length bytes) + 1)
+    (posted_out b bytes m) b v m))
+driver_call (command.Harvest vhost ring) v m =
+    Some (with_books (kind.Harvest vhost ring) v m (driver_of ring v) (λ b. harvests vhost ring b v m))
+driver_call other v m = None
+
 -- ---- Drive, of one whole call
 
 abbrev pub call_of : Command → Vhost → Contents → Option Call
@@ -144,17 +158,7 @@ call_of (command.VAddr vhost ring desc avail used) v m =
 call_of (command.GetBase vhost ring) v m =
     Some (called (number_refusal ring) v.settings (answer.Base (ring_at ring v.settings).queue.positions.next)
     (on_ring ring (kind.GetBase vhost ring)) v m)
-call_of (command.DriveAt vhost ring addr) v m = Some (drives vhost ring addr v m)
-call_of (command.PostIn vhost ring lens) v m =
-    Some (with_books (kind.Post vhost ring) v m (driver_of ring v)
-    (λ b. posts vhost ring (post_in_refusal lens b) (length lens) (posted_in b lens m) b v m))
-call_of (command.PostOut vhost ring bytes) v m =
-    Some (with_books (kind.Post vhost ring) v m (driver_of ring v)
-    (λ b. posts vhost ring (post_out_refusal (length bytes) b) (full_pieces (length bytes) + 1)
-    (posted_out b bytes m) b v m))
-call_of (command.Harvest vhost ring) v m =
-    Some (with_books (kind.Harvest vhost ring) v m (driver_of ring v) (λ b. harvests vhost ring b v m))
-call_of other v m = None
+call_of other v m = driver_call other v m
 
 -- a control call waits for the ring's turn, `features` for both; a driver's call doesn't
 abbrev pub may_call : ℕ → Command → Vhost → Bool

@@ -26,7 +26,7 @@ pub data Doing : Type 0 where
   Withdrawn : ℕ → ℕ → Doing  -- to shut the gate; and the version that it published
   Purges : ℕ → ℕ → Doing  -- to empty batch and ring
   Resizes : ℕ → ℕ → Doing  -- a resize, to change the capacity to this one
-  Shrinks : ℕ → ℕ → ℕ → Doing  -- to cut what is over, and to publish; the claim count at its resize, and its cuts so far
+  Shrinks : ℕ → ℕ → ℕ → Doing  -- to cut what is over, and to publish; the claim count at its resize, and its cuts
   Routed : ℕ → ℕ → ℕ → Doing  -- a send with a row: its file and epoch, and the length that is kept
   Placed : ℕ → ℕ → ℕ → ℕ → Doing  -- a send with a place: file, place, epoch and length
   Reads : ℕ → ℕ → Front → Doing  -- a read: its room, and what stands in front of frames

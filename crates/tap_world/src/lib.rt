@@ -1,11 +1,14 @@
 //! The world that a scenario runs in: definitions alone.
 //!
-//! A run is a list of [`Event`]s. `specs/Setup.antt` says what a scenario lays down, `specs/Line.antt` and
-//! `specs/LineSteps.antt` what a file's line is and how one step changes it, `specs/World.antt` what a world holds,
-//! `specs/StepTable.antt`, `specs/StepRing.antt` and `specs/Step.antt` what each event changes and when it is allowed,
-//! `specs/Scripts.antt` which events a command has, `specs/Runs.antt` what a run is and which one a seed picks,
-//! `specs/Sound.antt` and `specs/SoundRings.antt` what holds in every world of a run, and `specs/Project.antt` the
-//! trace of a run.
+//! A run is a list of [`Event`]s, phase by phase. `specs/Setup.antt` says what a scenario lays down,
+//! `specs/Line.antt` and `specs/LineSteps.antt` what a file's line is and how one step changes it,
+//! `specs/Guests.antt` what a guest and a vhost are, `specs/World.antt` what a world holds, and `specs/Effect.antt`
+//! what an event changes, as data. The rows of events: `specs/StepTable.antt`, `specs/StepRing.antt`,
+//! `specs/StepControl.antt`, `specs/StepBackend.antt`, `specs/StepTurns.antt`, `specs/StepTransmits.antt`; all of
+//! them: `specs/Step.antt`. `specs/Scripts.antt` says which event a command has next, `specs/Runs.antt` what a run is
+//! and which one a seed picks, `specs/Sound.antt` and `specs/SoundRings.antt` what is to hold in every world of a
+//! run, `specs/Project.antt` the trace of a run, `specs/Laws.antt` what this means, and `specs/Examples.antt` a
+//! worked run.
 #![tactic(auto)]
 
 mod event;
