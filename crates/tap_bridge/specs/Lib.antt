@@ -1,0 +1,4 @@
+pub mod Bridge
+pub mod Kept
+pub mod Without
+pub mod Steps
