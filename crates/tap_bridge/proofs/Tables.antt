@@ -61,6 +61,7 @@ filter_part p table order address seen h =
     by_test : (b : Bool) (s : Seen) → cond b (Some s) None ≡ Some seen → Some s ≡ Some seen
     by_test true s e = e
     by_test false s e = cc
+
     by_known : (o : Option Seen) → option_filter p o ≡ Some seen → o ≡ Some seen
     by_known None e = cc
     by_known (Some s) e = by_test (p s) s e
@@ -75,6 +76,7 @@ filter_known p table order address seen h =
     by_test : (b : Bool) (s : Seen) → p s ≡ b → cond b (Some s) None ≡ Some seen → p seen ≡ true
     by_test true s is e = let same : s ≡ seen = cc in subst (λ (x : Seen). p x ≡ true) same is
     by_test false s is e = cc
+
     by_known : (o : Option Seen) → option_filter p o ≡ Some seen → p seen ≡ true
     by_known None e = cc
     by_known (Some s) e = by_test (p s) s refl e
@@ -168,6 +170,7 @@ stale_gone now address table = by_known (found address table) refl
         → young now (cond (is_young now seen.time) table (remove_entry (is_at (address_order address)) table)) ≡ young now table
     by_test seen true is age = rw age refl
     by_test seen false is age = rw age (without_late now (is_at (address_order address)) table seen is age)
+
     by_known : (o : Option Seen) → found address table ≡ o → young now (without_known now address (found address table) table) ≡ young now table
     by_known None is = rw is refl
     by_known (Some seen) is = rw is (by_test seen (is_young now seen.time) is refl)

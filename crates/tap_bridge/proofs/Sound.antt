@@ -1,0 +1,262 @@
+-- What holds of tables and answers, whatever frames came.
+use Rattle.std.proofs.Common.{◌≡◌, ◌≢◌, ℕ, suc, ◌+◌, ◌<◌, ◌≤◌, ◌||◌, ◌==◌, not, Bool, true, false, cond, nat_lt, List, [], ◌∷◌, length, filter, map, Option, None, Some, refl, sym, ap, subst, ◌∙◌, arith}
+use Rattle.std.specs.Prelude.{is_some}
+use Rattle.std.specs.List.{list_any, AllByRecursion}
+use Rattle.std.specs.List.Sorted.{IsStrictlySortedBy}
+use Rattle.std.specs.Ordering.{nat_cmp, match_ordering, is_eq, ordering_reverse}
+use Rattle.std.specs.Cmp.{IsTotalOrder}
+use Rattle.std.specs.BTreeMap.{insert_entry, is_at}
+use Rattle.std.specs.Map.{lookup, keys_of}
+use Rattle.std.specs.declared.cmp.Ordering.{Ordering}
+use Rattle.std.specs.declared.cmp.Ordering.TheVariants.{Less, Equal, Greater}
+use Rattle.std.proofs.lemmas.Bool.Decides.{nat_tests}
+use Rattle.tap_bridge.specs.declared.address.Address.{Address}
+use Rattle.tap_bridge.specs.declared.address.Seen.{Seen}
+use Rattle.tap_bridge.specs.Bridge.{Table, address_order, found, is_young, young, is_among, at_ports, others, toward, sent_on, kept, learnt, learnt_from, table_after, source, destination, is_from_group, is_to_group}
+use Rattle.tap_bridge.specs.Kept.{AreInOrder, AreAt, IsPartOf}
+use Rattle.tap_bridge.specs.Calls.{Call, IsGood, table_of, answer_to}
+use Rattle.tap_bridge.specs.Laws.{IsSound, TablesAreSound, IsSoundAnswer, AnswersAreSound, AgainIsTheSame}
+use Rattle.tap_bridge.proofs.Tables.{address_total, filter_fewer, filter_part, filter_known}
+
+-- What holds of each of a list holds of each of a filter of it.
+filter_each : {X : Type 0} (P : X → Type 0) (p : X → Bool) (xs : List X) → AllByRecursion P xs → AllByRecursion P (filter p xs)
+filter_each P p [] h = tt
+filter_each {X} P p (x ∷ xs) h = by_test (p x) (filter_each P p xs h.1)
+  where
+    by_test : (b : Bool) → AllByRecursion P (filter p xs) → AllByRecursion P (cond b (x ∷ filter p xs) (filter p xs))
+    by_test true rest = (h.0, rest)
+    by_test false rest = rest
+
+-- what passes has passed
+filter_passed : {X : Type 0} (p : X → Bool) (xs : List X) → AllByRecursion (λ x. p x ≡ true) (filter p xs)
+filter_passed p [] = tt
+filter_passed {X} p (x ∷ xs) = by_test (p x) refl (filter_passed p xs)
+  where
+    by_test : (b : Bool) → p x ≡ b → AllByRecursion (λ y. p y ≡ true) (filter p xs) → AllByRecursion (λ y. p y ≡ true) (cond b (x ∷ filter p xs) (filter p xs))
+    by_test true e rest = (e, rest)
+    by_test false e rest = rest
+
+filter_same : {X : Type 0} (p : X → Bool) (xs : List X) → AllByRecursion (λ x. p x ≡ true) xs → filter p xs ≡ xs
+filter_same p [] h = refl
+filter_same {X} p (x ∷ xs) h = rw h.0 (ap (λ (rest : List X). x ∷ rest) (filter_same p xs h.1))
+
+-- a filter of a list in order is in order
+keys_each : (P : Address → Type 0) (p : Address × Seen → Bool) (es : Table) → AllByRecursion P (keys_of es) → AllByRecursion P (keys_of (filter p es))
+keys_each P p [] h = tt
+keys_each P p (e ∷ es) h = by_test (p e) (keys_each P p es h.1)
+  where
+    by_test : (b : Bool) → AllByRecursion P (keys_of (filter p es)) → AllByRecursion P (keys_of (cond b (e ∷ filter p es) (filter p es)))
+    by_test true rest = (h.0, rest)
+    by_test false rest = rest
+
+filter_ordered : (p : Address × Seen → Bool) (es : Table) → AreInOrder es → AreInOrder (filter p es)
+unfolding IsStrictlySortedBy
+filter_ordered p [] h = tt
+filter_ordered p (e ∷ es) h = by_test (p e) (filter_ordered p es h.1)
+  where
+    by_test : (b : Bool) → AreInOrder (filter p es) → AreInOrder (cond b (e ∷ filter p es) (filter p es))
+    by_test true rest = (keys_each (λ k. address_order e.0 k ≡ Less) p es h.0, rest)
+    by_test false rest = rest
+
+numbers_ordered : (p : ℕ → Bool) (xs : List ℕ) → IsStrictlySortedBy nat_cmp xs → IsStrictlySortedBy nat_cmp (filter p xs)
+unfolding IsStrictlySortedBy
+numbers_ordered p [] h = tt
+numbers_ordered p (x ∷ xs) h = by_test (p x) (numbers_ordered p xs h.1)
+  where
+    by_test : (b : Bool) → IsStrictlySortedBy nat_cmp (filter p xs) → IsStrictlySortedBy nat_cmp (cond b (x ∷ filter p xs) (filter p xs))
+    by_test true rest = (filter_each (λ y. nat_cmp x y ≡ Less) p xs h.0, rest)
+    by_test false rest = rest
+
+-- An address that is put in.
+
+-- what holds of each address and of the new one
+put_each : (P : Address → Type 0) (a : Address) (v : Seen) (es : Table) → P a → AllByRecursion P (keys_of es) → AllByRecursion P (keys_of (insert_entry address_order es a v))
+put_each P a v [] here h = (here, tt)
+put_each P a v (e ∷ es) here h = by_order (address_order a e.0) (put_each P a v es here h.1)
+  where
+    by_order : (o : Ordering) → AllByRecursion P (keys_of (insert_entry address_order es a v))
+        → AllByRecursion P (keys_of (match_ordering o ((a, v) ∷ e ∷ es) ((e.0, v) ∷ es) (e ∷ insert_entry address_order es a v)))
+    by_order Less rest = (here, h)
+    by_order Equal rest = h
+    by_order Greater rest = (h.0, rest)
+
+-- what is above one is above what is below that one
+above : (a b : Address) (ks : List Address) → address_order a b ≡ Less → AllByRecursion (λ k. address_order b k ≡ Less) ks → AllByRecursion (λ k. address_order a k ≡ Less) ks
+above a b [] h all = tt
+above a b (k ∷ ks) h all = (address_total.trans a b k h all.0, above a b ks h all.1)
+
+put_ordered : (a : Address) (v : Seen) (es : Table) → AreInOrder es → AreInOrder (insert_entry address_order es a v)
+unfolding IsStrictlySortedBy
+put_ordered a v [] h = (tt, tt)
+put_ordered a v (e ∷ es) h = by_order (address_order a e.0) refl (put_ordered a v es h.1)
+  where
+    by_order : (o : Ordering) → address_order a e.0 ≡ o → AreInOrder (insert_entry address_order es a v)
+        → AreInOrder (match_ordering o ((a, v) ∷ e ∷ es) ((e.0, v) ∷ es) (e ∷ insert_entry address_order es a v))
+    by_order Less is rest = ((is, above a e.0 (keys_of es) is h.0), h)
+    by_order Equal is rest = h
+    by_order Greater is rest =
+        let below : address_order e.0 a ≡ Less = address_total.antisymm e.0 a ∙ ap ordering_reverse is in
+        (put_each (λ k. address_order e.0 k ≡ Less) a v es below h.0, rest)
+
+-- how many there are then
+put_longer : (a : Address) (v : Seen) (es : Table) → length (insert_entry address_order es a v) ≤ length es + 1
+put_longer a v [] = omega arith
+put_longer a v (e ∷ es) = by_order (address_order a e.0) (put_longer a v es)
+  where
+    by_order : (o : Ordering) → length (insert_entry address_order es a v) ≤ length es + 1
+        → length (match_ordering o ((a, v) ∷ e ∷ es) ((e.0, v) ∷ es) (e ∷ insert_entry address_order es a v)) ≤ length (e ∷ es) + 1
+    by_order Less h = omega arith
+    by_order Equal h = omega arith
+    by_order Greater h = omega arith
+
+-- an address isn't there, where it is below all
+none_above : (a : Address) (es : Table) → AllByRecursion (λ k. address_order a k ≡ Less) (keys_of es) → found a es ≡ None
+none_above a [] h = refl
+none_above a (e ∷ es) h = ap (λ (o : Ordering). cond (is_eq o) (Some e.1) (found a es)) h.0 ∙ none_above a es h.1
+
+put_known_long : (a : Address) (v : Seen) (es : Table) → AreInOrder es → is_some (found a es) ≡ true
+    → length (insert_entry address_order es a v) ≡ length es
+unfolding IsStrictlySortedBy
+put_known_long a v [] order h = cc
+put_known_long a v (e ∷ es) order h = by_order (address_order a e.0) refl h (λ there. put_known_long a v es order.1 there)
+  where
+    by_order : (o : Ordering) → address_order a e.0 ≡ o → is_some (cond (is_eq o) (Some e.1) (found a es)) ≡ true
+        → (is_some (found a es) ≡ true → length (insert_entry address_order es a v) ≡ length es)
+        → length (match_ordering o ((a, v) ∷ e ∷ es) ((e.0, v) ∷ es) (e ∷ insert_entry address_order es a v)) ≡ length (e ∷ es)
+    by_order Less is there rest =
+        let none : found a es ≡ None = none_above a es (above a e.0 (keys_of es) is order.0) in
+        let both : is_some {T = Seen} None ≡ true = ap (λ (o : Option Seen). is_some o) (sym none) ∙ there in cc
+    by_order Equal is there rest = refl
+    by_order Greater is there rest = ap suc (rest there)
+
+-- Tables.
+
+learnt_sound : (a : Address) (v : Seen) (table : Table) → IsSound table → IsSound (learnt a v table)
+learnt_sound a v table sound =
+    by_tests (is_some (found a table)) (nat_lt (length table) 4096) refl refl
+  where
+    by_tests : (known room : Bool) → is_some (found a table) ≡ known → nat_lt (length table) 4096 ≡ room
+        → IsSound (cond (known || room) (insert_entry address_order table a v) table)
+    by_tests true room is left = record {
+      ordered = put_ordered a v table sound.ordered;
+      few = rw (put_known_long a v table sound.ordered is) sound.few;
+    }
+    by_tests false true is left =
+        let more = put_longer a v table in
+        let few : length table < 4096 = grind (arith, nat_tests) in
+        record { ordered = put_ordered a v table sound.ordered; few = omega arith }
+    by_tests false false is left = sound
+
+kept_sound : (now : ℕ) (ports : List ℕ) (table : Table) → IsSound table → IsSound (kept now ports table)
+kept_sound now ports table sound =
+    let at = at_ports ports table in
+    let fewer = filter_fewer (λ e. is_among ports e.1.port) table in
+    let younger = filter_fewer (λ e. is_young now e.1.time) at in
+    let few = sound.few in
+    record {
+      ordered = filter_ordered (λ e. is_young now e.1.time) at (filter_ordered (λ e. is_among ports e.1.port) table sound.ordered);
+      few = omega arith;
+    }
+
+after_sound : (port : ℕ) (frame : List ℕ) (now : ℕ) (ports : List ℕ) (table : Table) → IsSound table → IsSound (table_after port frame now ports table)
+after_sound port frame now ports table sound = by_test (is_from_group frame)
+  where
+    by_test : (b : Bool) → IsSound (cond b (kept now ports table) (learnt (source frame) (record { port = port; time = now }) (kept now ports table)))
+    by_test true = kept_sound now ports table sound
+    by_test false = learnt_sound (source frame) (record { port = port; time = now }) (kept now ports table) (kept_sound now ports table sound)
+
+pub tables_are_sound : TablesAreSound
+unfolding IsStrictlySortedBy
+tables_are_sound [] = record { ordered = tt; few = omega arith }
+tables_are_sound (c ∷ before) = after_sound c.port c.frame c.now c.ports (table_of before) (tables_are_sound before)
+
+-- Answers.
+
+-- each port of a table after a frame is there
+port_known : (p : ℕ → Bool) (a : Address) (v : Seen) (es : Table) → p v.port ≡ true → AllByRecursion (λ e. p e.1.port ≡ true) es
+    → AllByRecursion (λ e. p e.1.port ≡ true) (insert_entry address_order es a v)
+port_known p a v [] here h = (here, tt)
+port_known p a v (e ∷ es) here h = by_order (address_order a e.0) (port_known p a v es here h.1)
+  where
+    by_order : (o : Ordering) → AllByRecursion (λ e. p e.1.port ≡ true) (insert_entry address_order es a v)
+        → AllByRecursion (λ e. p e.1.port ≡ true) (match_ordering o ((a, v) ∷ e ∷ es) ((e.0, v) ∷ es) (e ∷ insert_entry address_order es a v))
+    by_order Less rest = (here, h)
+    by_order Equal rest = (here, h.1)
+    by_order Greater rest = (h.0, rest)
+
+ports_after : (c : Call) (table : Table) → is_among c.ports c.port ≡ true
+    → AllByRecursion (λ e. is_among c.ports e.1.port ≡ true) (table_after c.port c.frame c.now c.ports table)
+ports_after c table here = by_test (is_from_group c.frame)
+  where
+    v : Seen
+    v = record { port = c.port; time = c.now }
+
+    stay : AllByRecursion (λ e. is_among c.ports e.1.port ≡ true) (kept c.now c.ports table)
+    stay = filter_each (λ e. is_among c.ports e.1.port ≡ true) (λ e. is_young c.now e.1.time) (at_ports c.ports table) (filter_passed (λ e. is_among c.ports e.1.port) table)
+
+    by_room : (b : Bool) → AllByRecursion (λ e. is_among c.ports e.1.port ≡ true)
+        (cond b (insert_entry address_order (kept c.now c.ports table) (source c.frame) v) (kept c.now c.ports table))
+    by_room true = port_known (is_among c.ports) (source c.frame) v (kept c.now c.ports table) here stay
+    by_room false = stay
+
+    by_test : (b : Bool) → AllByRecursion (λ e. is_among c.ports e.1.port ≡ true) (cond b (kept c.now c.ports table) (learnt (source c.frame) v (kept c.now c.ports table)))
+    by_test true = stay
+    by_test false = by_room (is_some (found (source c.frame) (kept c.now c.ports table)) || nat_lt (length (kept c.now c.ports table)) 4096)
+
+-- what is found is one of the table's
+found_each : (P : Seen → Type 0) (a : Address) (es : Table) (v : Seen) → AllByRecursion (λ e. P e.1) es → found a es ≡ Some v → P v
+found_each P a [] v h is = cc
+found_each P a (e ∷ es) v h is = by_test (is_at (address_order a) e.0) is (λ there. found_each P a es v h.1 there)
+  where
+    by_test : (b : Bool) → cond b (Some e.1) (found a es) ≡ Some v → (found a es ≡ Some v → P v) → P v
+    by_test true e_is rest = let same : e.1 ≡ v = cc in subst P same h.0
+    by_test false e_is rest = rest e_is
+
+-- a number is among those that it is among
+among_each : (all xs : List ℕ) → ((x : ℕ) → is_among xs x ≡ true → is_among all x ≡ true) → AllByRecursion (λ x. is_among all x ≡ true) xs
+among_each all [] h = tt
+among_each all (x ∷ xs) h = (h x (grind (arith, nat_tests)), among_each all xs (λ y e. h y (rw e (or_true (x == y)))))
+  where
+    or_true : (b : Bool) → (b || true) ≡ true
+    or_true true = refl
+    or_true false = refl
+
+others_sound : (c : Call) (xs : List ℕ) → IsStrictlySortedBy nat_cmp xs → AllByRecursion (λ x. is_among c.ports x ≡ true) xs → IsSoundAnswer c (others c.port xs)
+others_sound c xs rising open_ones = record {
+  rising = numbers_ordered (λ other. not (other == c.port)) xs rising;
+  open_ports = filter_each (λ x. is_among c.ports x ≡ true) (λ other. not (other == c.port)) xs open_ones;
+  others = not_own (others c.port xs) (filter_passed (λ other. not (other == c.port)) xs);
+}
+  where
+    not_own : (ys : List ℕ) → AllByRecursion (λ y. not (y == c.port) ≡ true) ys → AllByRecursion (λ y. y ≢ c.port) ys
+    not_own [] h = tt
+    not_own (y ∷ ys) h = (let first : not (y == c.port) ≡ true = h.0 in grind (arith, nat_tests), not_own ys h.1)
+
+pub answers_are_sound : AnswersAreSound
+unfolding IsStrictlySortedBy
+answers_are_sound c before good = by_test (is_to_group c.frame)
+  where
+    all : IsSoundAnswer c (others c.port c.ports)
+    all = others_sound c c.ports good.rising (among_each c.ports c.ports (λ x e. e))
+
+    by_known : (o : Option Seen) → found (destination c.frame) (table_of (c ∷ before)) ≡ o → IsSoundAnswer c (toward c.port c.ports o)
+    by_known None is = all
+    by_known (Some v) is =
+        let there : is_among c.ports v.port ≡ true =
+        found_each (λ s. is_among c.ports s.port ≡ true) (destination c.frame) (table_of (c ∷ before)) v (ports_after c (table_of before) good.own) is in
+        others_sound c (v.port ∷ []) (tt, tt) (there, tt)
+
+    by_test : (b : Bool) → IsSoundAnswer c (cond b (others c.port c.ports) (toward c.port c.ports (found (destination c.frame) (table_of (c ∷ before)))))
+    by_test true = all
+    by_test false = by_known (found (destination c.frame) (table_of (c ∷ before))) refl
+
+-- what stays stays again
+kept_again : (now : ℕ) (ports : List ℕ) (table : Table) → kept now ports (kept now ports table) ≡ kept now ports table
+kept_again now ports table =
+    ap (λ (t : Table). young now t) (filter_same (λ e. is_among ports e.1.port) (kept now ports table)
+    (filter_each (λ e. is_among ports e.1.port ≡ true) (λ e. is_young now e.1.time) (at_ports ports table) (filter_passed (λ e. is_among ports e.1.port) table)))
+    ∙ filter_same (λ e. is_young now e.1.time) (kept now ports table) (filter_passed (λ e. is_young now e.1.time) (at_ports ports table))
+
+pub again_is_the_same : AgainIsTheSame
+again_is_the_same port frame now ports table =
+    ap (λ (t : Table). learnt_from frame (record { port = port; time = now }) t) (kept_again now ports table)
