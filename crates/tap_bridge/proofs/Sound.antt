@@ -4,9 +4,9 @@ use Rattle.std.specs.Prelude.{is_some}
 use Rattle.std.specs.List.{list_any, AllByRecursion}
 use Rattle.std.specs.List.Sorted.{IsStrictlySortedBy}
 use Rattle.std.specs.Ordering.{nat_cmp, match_ordering, is_eq, ordering_reverse}
-use Rattle.std.specs.Cmp.{IsTotalOrder}
+use Rattle.std.specs.Cmp.{IsTotalOrder, eq_by_cmp_equiv}
 use Rattle.std.specs.BTreeMap.{insert_entry, is_at}
-use Rattle.std.specs.Map.{lookup, keys_of}
+use Rattle.std.specs.Map.{lookup, keys_of, remove_entry}
 use Rattle.std.specs.declared.cmp.Ordering.{Ordering}
 use Rattle.std.specs.declared.cmp.Ordering.TheVariants.{Less, Equal, Greater}
 use Rattle.std.proofs.lemmas.Bool.Decides.{nat_tests}
@@ -14,9 +14,10 @@ use Rattle.tap_bridge.specs.declared.address.Address.{Address}
 use Rattle.tap_bridge.specs.declared.address.Seen.{Seen}
 use Rattle.tap_bridge.specs.Bridge.{Table, address_order, found, is_young, young, is_among, at_ports, others, toward, sent_on, kept, learnt, learnt_from, table_after, source, destination, is_from_group, is_to_group}
 use Rattle.tap_bridge.specs.Kept.{AreInOrder, AreAt, IsPartOf}
+use Rattle.tap_bridge.specs.Without.{put_from, trimmed}
 use Rattle.tap_bridge.specs.Calls.{Call, IsGood, table_of, answer_to}
 use Rattle.tap_bridge.specs.Laws.{IsSound, TablesAreSound, IsSoundAnswer, AnswersAreSound, AgainIsTheSame}
-use Rattle.tap_bridge.proofs.Tables.{address_total, filter_fewer, filter_part, filter_known}
+use Rattle.tap_bridge.proofs.Tables.{address_total, address_exact, filter_fewer, filter_part, filter_known}
 
 -- What holds of each of a list holds of each of a filter of it.
 filter_each : {X : Type 0} (P : X → Type 0) (p : X → Bool) (xs : List X) → AllByRecursion P xs → AllByRecursion P (filter p xs)
@@ -158,7 +159,7 @@ kept_sound now ports table sound =
       few = omega arith;
     }
 
-after_sound : (port : ℕ) (frame : List ℕ) (now : ℕ) (ports : List ℕ) (table : Table) → IsSound table → IsSound (table_after port frame now ports table)
+pub after_sound : (port : ℕ) (frame : List ℕ) (now : ℕ) (ports : List ℕ) (table : Table) → IsSound table → IsSound (table_after port frame now ports table)
 after_sound port frame now ports table sound = by_test (is_from_group frame)
   where
     by_test : (b : Bool) → IsSound (cond b (kept now ports table) (learnt (source frame) (record { port = port; time = now }) (kept now ports table)))
@@ -260,3 +261,127 @@ kept_again now ports table =
 pub again_is_the_same : AgainIsTheSame
 again_is_the_same port frame now ports table =
     ap (λ (t : Table). learnt_from frame (record { port = port; time = now }) t) (kept_again now ports table)
+
+-- An address that is put in before what goes away goes.
+
+-- it goes to the front of those that it is below
+put_front : (a : Address) (v : Seen) (es : Table) → AllByRecursion (λ k. address_order a k ≡ Less) (keys_of es)
+    → insert_entry address_order es a v ≡ (a, v) ∷ es
+put_front a v [] h = refl
+put_front a v (e ∷ es) h =
+    ap (λ (o : Ordering). match_ordering o ((a, v) ∷ e ∷ es) ((e.0, v) ∷ es) (e ∷ insert_entry address_order es a v)) h.0
+
+-- a test of what is known that the new one passes
+put_then_filter : (p : Seen → Bool) (a : Address) (v : Seen) (es : Table) → p v ≡ true → AreInOrder es
+    → filter (λ e. p e.1) (insert_entry address_order es a v) ≡ insert_entry address_order (filter (λ e. p e.1) es) a v
+unfolding IsStrictlySortedBy
+put_then_filter p a v [] here h = rw here refl
+put_then_filter p a v (e ∷ es) here h = by_order (address_order a e.0) refl (p e.1) refl (put_then_filter p a v es here h.1)
+  where
+    rest : Table
+    rest = filter (λ x. p x.1) es
+
+    by_order : (o : Ordering) → address_order a e.0 ≡ o → (b : Bool) → p e.1 ≡ b
+        → filter (λ x. p x.1) (insert_entry address_order es a v) ≡ insert_entry address_order rest a v
+        → filter (λ x. p x.1) (match_ordering o ((a, v) ∷ e ∷ es) ((e.0, v) ∷ es) (e ∷ insert_entry address_order es a v))
+        ≡ insert_entry address_order (filter (λ x. p x.1) (e ∷ es)) a v
+    by_order Less is b test again =
+        rw here (sym (put_front a v (filter (λ x. p x.1) (e ∷ es))
+        (keys_each (λ k. address_order a k ≡ Less) (λ x. p x.1) (e ∷ es) (is, above a e.0 (keys_of es) is h.0))))
+    by_order Equal is true test again = rw (here, test, is) refl
+    by_order Equal is false test again =
+        let same : a ≡ e.0 = address_exact a e.0 is in
+        rw (here, test) (ap (λ (k : Address). (k, v) ∷ rest) (sym same)
+        ∙ sym (put_front a v rest (subst (λ (k : Address). AllByRecursion (λ q. address_order k q ≡ Less) (keys_of rest)) (sym same)
+        (keys_each (λ q. address_order e.0 q ≡ Less) (λ x. p x.1) es h.0))))
+    by_order Greater is true test again = rw (test, is) (ap (λ (t : Table). e ∷ t) again)
+    by_order Greater is false test again = rw test again
+
+-- where it wasn't known, it is taken away again without a trace
+put_then_taken : (a : Address) (v : Seen) (es : Table) → found a es ≡ None
+    → remove_entry (is_at (address_order a)) (insert_entry address_order es a v) ≡ es
+put_then_taken a v [] none =
+    ap (λ (b : Bool). let t : Table = cond b [] ((a, v) ∷ []) in t) ((eq_by_cmp_equiv address_total).refl a)
+put_then_taken a v (e ∷ es) none = by_order (address_order a e.0) refl none (λ there. put_then_taken a v es there)
+  where
+    taken : Table → Table
+    taken t = remove_entry (is_at (address_order a)) t
+
+    by_order : (o : Ordering) → address_order a e.0 ≡ o → cond (is_eq o) (Some e.1) (found a es) ≡ None
+        → (found a es ≡ None → remove_entry (is_at (address_order a)) (insert_entry address_order es a v) ≡ es)
+        → remove_entry (is_at (address_order a)) (match_ordering o ((a, v) ∷ e ∷ es) ((e.0, v) ∷ es) (e ∷ insert_entry address_order es a v)) ≡ e ∷ es
+    by_order Less is there again =
+        ap (λ (b : Bool). cond b (e ∷ es) ((a, v) ∷ remove_entry (is_at (address_order a)) (e ∷ es))) ((eq_by_cmp_equiv address_total).refl a)
+    by_order Equal is there again = cc
+    by_order Greater is there again =
+        ap (λ (q : Ordering). cond (is_eq q) (insert_entry address_order es a v) (e ∷ remove_entry (is_at (address_order a)) (insert_entry address_order es a v))) is
+        ∙ ap (λ (t : Table). e ∷ t) (again there)
+
+-- and there is one more in between
+put_new_long : (a : Address) (v : Seen) (es : Table) → found a es ≡ None → length (insert_entry address_order es a v) ≡ length es + 1
+put_new_long a v [] none = refl
+put_new_long a v (e ∷ es) none = by_order (address_order a e.0) none (λ there. put_new_long a v es there)
+  where
+    by_order : (o : Ordering) → cond (is_eq o) (Some e.1) (found a es) ≡ None
+        → (found a es ≡ None → length (insert_entry address_order es a v) ≡ length es + 1)
+        → length (match_ordering o ((a, v) ∷ e ∷ es) ((e.0, v) ∷ es) (e ∷ insert_entry address_order es a v)) ≡ length (e ∷ es) + 1
+    by_order Less there again = omega arith
+    by_order Equal there again = cc
+    by_order Greater there again = let more = again there in omega arith
+
+-- a table that isn't too long
+not_trimmed : (a : Address) (t : Table) → length t ≤ 4096 → trimmed a t ≡ t
+not_trimmed a t few =
+    let short : nat_lt 4096 (length t) ≡ false = grind (arith, nat_tests) in
+    ap (λ (b : Bool). cond b (remove_entry (is_at (address_order a)) t) t) short
+
+none_from : (o : Option Seen) → is_some o ≡ false → o ≡ None
+none_from None h = refl
+none_from (Some v) h = cc
+
+-- put in and trimmed, it is learnt
+put_then_trimmed : (a : Address) (v : Seen) (t : Table) → IsSound t → trimmed a (insert_entry address_order t a v) ≡ learnt a v t
+put_then_trimmed a v t sound = by_tests (is_some (found a t)) (nat_lt (length t) 4096) refl refl
+  where
+    few : length t ≤ 4096
+    few = sound.few
+
+    by_tests : (known room : Bool) → is_some (found a t) ≡ known → nat_lt (length t) 4096 ≡ room
+        → trimmed a (insert_entry address_order t a v) ≡ cond (known || room) (insert_entry address_order t a v) t
+    by_tests true room is left =
+        let long = put_known_long a v t sound.ordered is in not_trimmed a (insert_entry address_order t a v) (omega arith)
+    by_tests false true is left =
+        let long = put_longer a v t in
+        let less : length t < 4096 = grind (arith, nat_tests) in not_trimmed a (insert_entry address_order t a v) (omega arith)
+    by_tests false false is left =
+        let none = none_from (found a t) is in
+        let long = put_new_long a v t none in
+        let full : 4096 ≤ length t = grind (arith, nat_tests) in
+        let over : 4096 < length (insert_entry address_order t a v) = omega arith in
+        let more : nat_lt 4096 (length (insert_entry address_order t a v)) ≡ true = grind (arith, nat_tests) in
+        ap (λ (b : Bool). cond b (remove_entry (is_at (address_order a)) (insert_entry address_order t a v)) (insert_entry address_order t a v)) more
+        ∙ put_then_taken a v t none
+
+-- what stays of a table into which an address was put
+put_then_kept : (now : ℕ) (ports : List ℕ) (a : Address) (v : Seen) (t : Table) → is_among ports v.port ≡ true → is_young now v.time ≡ true → AreInOrder t
+    → kept now ports (insert_entry address_order t a v) ≡ insert_entry address_order (kept now ports t) a v
+put_then_kept now ports a v t own fresh ordered =
+    ap (λ (x : Table). young now x) (put_then_filter (λ (s : Seen). is_among ports s.port) a v t own ordered)
+    ∙ put_then_filter (λ (s : Seen). is_young now s.time) a v (at_ports ports t) fresh (filter_ordered (λ e. is_among ports e.1.port) t ordered)
+
+pub steps_are_one : (port : ℕ) (frame : List ℕ) (now : ℕ) (ports : List ℕ) (table : Table) → is_among ports port ≡ true → IsSound table
+    → trimmed (source frame) (kept now ports (put_from frame (record { port = port; time = now }) table)) ≡ table_after port frame now ports table
+steps_are_one port frame now ports table own sound = by_test (is_from_group frame)
+  where
+    v : Seen
+    v = record { port = port; time = now }
+
+    fresh : is_young now now ≡ true
+    fresh = grind (arith, nat_tests)
+
+    by_test : (b : Bool) → trimmed (source frame) (kept now ports (cond b table (insert_entry address_order table (source frame) v)))
+        ≡ cond b (kept now ports table) (learnt (source frame) v (kept now ports table))
+    by_test true = not_trimmed (source frame) (kept now ports table) (kept_sound now ports table sound).few
+    by_test false =
+        ap (λ (t : Table). trimmed (source frame) t) (put_then_kept now ports (source frame) v table own fresh sound.ordered)
+        ∙ put_then_trimmed (source frame) v (kept now ports table) (kept_sound now ports table sound)

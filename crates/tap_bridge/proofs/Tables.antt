@@ -12,7 +12,8 @@ use Rattle.std.specs.Map.{lookup, remove_entry, keys_of}
 use Rattle.std.specs.declared.cmp.Ordering.{Ordering}
 use Rattle.std.specs.declared.cmp.Ordering.TheVariants.{Less, Equal, Greater}
 use Rattle.std.proofs.lemmas.Map.Lookups.{CmpEqualImpliesEq, exact_unsigned, exact_bytes, exact_pairs}
-use Rattle.std.proofs.lemmas.Map.Views.{All-found, tells_apart}
+use Rattle.std.proofs.lemmas.Map.Views.{All-found, tells_apart, any-filter_same}
+use Rattle.std.proofs.lemmas.Bool.Decides.{nat_tests}
 use Rattle.std.proofs.lemmas.Map.Entries.{lookup-filter-values, option_filter}
 use Rattle.std.proofs.lemmas.Map.Keys.{IsDistinct-from_sorted}
 use Rattle.std.proofs.lemmas.List.Elements.{recursion_from_All}
@@ -20,7 +21,7 @@ use Rattle.tap_bridge.specs.declared.address.Address.{Address}
 use Rattle.tap_bridge.specs.declared.address.Seen.{Seen}
 use Rattle.tap_bridge.specs.Bridge.{Table, address_order, found, is_young, young, is_among, at_ports}
 use Rattle.tap_bridge.specs.Kept.{time_order, has_time, StandAt, AreInOrder, AreAt, IsPartOf}
-use Rattle.tap_bridge.specs.Without.{without_known, without_stale}
+use Rattle.tap_bridge.specs.Without.{without_known, without_stale, is_time_of}
 
 -- The two orders.
 
@@ -271,3 +272,20 @@ taken_part address old new taken other seen h = by_test (is_at (address_order ad
     by_test : (b : Bool) → cond b None (found other old) ≡ Some seen → found other old ≡ Some seen
     by_test true is = cc
     by_test false is = is
+
+-- the times that addresses have
+pub times_kept : (times : List (ℕ × Address)) (table : Table) → StandAt times table → StandAt (filter (is_time_of table) times) table
+times_kept times table timed address seen h =
+    any-filter_same (is_at (time_order (seen.time, address))) (is_time_of table) true
+    (λ p e. subst (λ (q : ℕ × Address). is_time_of table q ≡ true) (same_time (seen.time, address) p e) itself) times
+    ∙ timed address seen h
+  where
+    itself : is_time_of table (seen.time, address) ≡ true
+    itself = rw h (grind (arith, nat_tests))
+
+-- where an address isn't known, none of its times stands there
+pub time_of_none : (address : Address) (time : ℕ) (t1 t2 : List (ℕ × Address)) (table : Table) → StandAt t1 table
+    → ((q : ℕ × Address) → has_time t2 q.0 q.1 ≡ cond (is_at (time_order (time, address)) q) false (has_time t1 q.0 q.1))
+    → found address table ≡ None → StandAt t2 table
+time_of_none address time t1 t2 table timed taken none =
+    time_taken address time t1 t2 table timed taken (λ seen h. let both : None ≡ Some seen = sym none ∙ h in cc)

@@ -1,9 +1,9 @@
 //! A learning bridge.
-ghost use Rattle.std.specs.Prelude.{◌≡◌, ◌≤◌, ◌⊎◌, true, [], length, IfOk, OnOk, OnErr};
-ghost use Rattle.tap_bridge.specs.Bridge.{is_among, kept, table_after, sent_on};
+ghost use Rattle.std.specs.Prelude.{◌≡◌, ◌≤◌, true, [], length, IfOk, OnOk, OnErr};
+ghost use Rattle.tap_bridge.specs.Bridge.{is_among, table_after, sent_on};
 
 use crate::address::{Address, MOST, Seen};
-use crate::table::{drop_old, fill, keep_ports, learn_source};
+use crate::table::{drop_old, fill, keep_ports, new_ports, put_source, trim};
 use std::alloc::{AllocError, Global};
 use std::collections::{BTreeMap, BTreeSet};
 use std::marker::Model;
@@ -50,9 +50,9 @@ impl Bridge {
         self.by_address.len()
     }
 
-    /// Learns from a frame that came in at a port, and tells at which ports it is sent on. It takes its
-    /// memory first. After want of memory the table is as it was, or without what goes away at the frame;
-    /// the frame may be given again.
+    /// Learns from a frame that came in at a port, and tells at which of the ports it is sent on. Entries
+    /// that are 300,000 milliseconds old go away before, and those whose port isn't one of the ports. It
+    /// takes its memory first, so all is unchanged after want of memory.
     pub fn frame(
         &mut self,
         port: u16,
@@ -65,13 +65,21 @@ impl Bridge {
         ensures answer { IfOk result
             (λ sent. sent.items ≡ sent_on port bytes.now ports.now (table_after port bytes.now now ports.now self.old)) }
         ensures table { OnOk result (self.new ≡ table_after port bytes.now now ports.now self.old) }
-        ensures unlearnt { OnErr result ((self.new ≡ self.old) ⊎ (self.new ≡ kept now ports.now self.old)) }
+        ensures unchanged { OnErr result (self.new ≡ self.old) }
     {
         let mut answer = Vec::with_capacity(self.alloc, ports.len())?;
-        keep_ports(self.alloc, &mut self.by_address, &mut self.ports, ports)?;
-        drop_old(&mut self.by_address, &mut self.by_time, now);
+        let next = new_ports(self.alloc, &self.ports, ports)?;
         let seen = Seen { port, time: now };
-        learn_source(&mut self.by_address, &mut self.by_time, bytes, seen)?;
+        put_source(&mut self.by_address, &mut self.by_time, bytes, seen)?;
+        keep_ports(
+            &mut self.by_address,
+            &mut self.by_time,
+            &mut self.ports,
+            next,
+            ports,
+        );
+        drop_old(&mut self.by_address, &mut self.by_time, now);
+        trim(&mut self.by_address, &mut self.by_time, bytes, now);
         fill(&mut answer, &self.by_address, port, bytes, ports);
         Ok(answer)
     }

@@ -1,9 +1,10 @@
 //! The addresses by their bytes, and by their times.
-ghost use Rattle.std.specs.Prelude.{◌≡◌, ◌≤◌, ◌+◌, ◌∷◌, ◌++◌, ℕ, List, nat_lt, true, false, [], length, IsTrue, IfOk, IfSome, IfNone, OnOk, OnErr, vec_capacity, vec_len};
+ghost use Rattle.std.specs.Prelude.{◌≡◌, ◌≤◌, ◌+◌, ◌∷◌, ◌++◌, ℕ, List, nat_lt, true, false, [], length, IsTrue, IfOk, IfSome, IfNone, MatchOption, OnOk, OnErr, vec_capacity, vec_len};
 ghost use Rattle.std.specs.List.{AllByRecursion};
-ghost use Rattle.tap_bridge.specs.Bridge.{is_among, at_ports, young, is_young, learnt, learnt_from, found, others, sent_on};
+ghost use Rattle.std.specs.BTreeMap.{insert_entry};
+ghost use Rattle.tap_bridge.specs.Bridge.{is_among, at_ports, young, is_young, found, address_order, source as source_of, others, sent_on};
 ghost use Rattle.tap_bridge.specs.Kept.{StandAt, AreInOrder, AreAt, IsPartOf};
-ghost use Rattle.tap_bridge.specs.Without.{without_stale};
+ghost use Rattle.tap_bridge.specs.Without.{without_stale, is_time_of, put_from, trimmed};
 
 use crate::address::{Address, MOST, STAY, Seen, destination, is_group, source};
 use std::alloc::{AllocError, Global};
@@ -16,8 +17,18 @@ fn has(ports: &[u16], port: u16) -> bool
     ports.iter().any(|other| *other == port)
 }
 
+// Whether an address has this time.
+fn has_time_of(by_address: &BTreeMap<Address, Seen>, time: u64, address: Address) -> bool
+    ensures { result ≡ is_time_of by_address.now.entries (time, address) }
+{
+    match seen_at(by_address, address) {
+        Some(seen) => seen.time == time,
+        None => false,
+    }
+}
+
 // Takes the entries away whose port isn't one of these.
-fn drop_gone(by_address: &mut BTreeMap<Address, Seen>, ports: &[u16])
+fn drop_ports(by_address: &mut BTreeMap<Address, Seen>, ports: &[u16])
     ensures entries { by_address.new.entries ≡ at_ports ports.now by_address.old.entries }
     ensures ordered { AreInOrder by_address.new.entries }
     ensures part { IsPartOf by_address.old.entries by_address.new.entries }
@@ -25,29 +36,47 @@ fn drop_gone(by_address: &mut BTreeMap<Address, Seen>, ports: &[u16])
     by_address.retain(|_, seen| has(ports, seen.port));
 }
 
-// Keeps the ports of a frame, and takes the entries away whose port isn't one of them.
-pub fn keep_ports(
-    alloc: Global,
-    by_address: &mut BTreeMap<Address, Seen>,
-    kept: &mut Vec<u16>,
-    ports: &[u16],
-) -> Result<(), AllocError>
-    requires ordered { AreInOrder by_address.old.entries }
-    requires at_ports { AreAt kept.old.items by_address.old.entries }
-    ensures entries { OnOk result (by_address.new.entries ≡ at_ports ports.now by_address.old.entries) }
-    ensures ports { OnOk result (kept.new.items ≡ ports.now) }
-    ensures unchanged { OnErr result (by_address.new.entries ≡ by_address.old.entries) }
-    ensures at_ports { AreAt kept.new.items by_address.new.entries }
-    ensures ordered { AreInOrder by_address.new.entries }
-    ensures part { IsPartOf by_address.old.entries by_address.new.entries }
-    ensures fewer { length by_address.new.entries ≤ length by_address.old.entries }
+// Takes the times away that no address has.
+fn drop_times(by_address: &BTreeMap<Address, Seen>, by_time: &mut BTreeSet<(u64, Address)>)
+    requires { StandAt by_time.old.keys by_address.now.entries }
+    ensures { StandAt by_time.new.keys by_address.now.entries }
 {
-    if kept.as_slice() == ports {
-        return Ok(());
+    by_time.retain(|(time, address)| has_time_of(by_address, *time, *address));
+}
+
+// The ports of a frame, if they aren't those that are kept.
+pub fn new_ports(alloc: Global, kept: &[u16], ports: &[u16]) -> Result<Option<Vec<u16>>, AllocError>
+    ensures { IfOk result
+        (λ next. MatchOption next (kept.now ≡ ports.now) (λ copy. copy.items ≡ ports.now)) }
+{
+    if kept == ports {
+        return Ok(None);
     }
-    *kept = ports.to_vec(alloc)?;
-    drop_gone(by_address, ports);
-    Ok(())
+    Ok(Some(ports.to_vec(alloc)?))
+}
+
+// Takes the entries away whose port isn't one of these, which are kept if they are new.
+pub fn keep_ports(
+    by_address: &mut BTreeMap<Address, Seen>,
+    by_time: &mut BTreeSet<(u64, Address)>,
+    kept: &mut Vec<u16>,
+    next: Option<Vec<u16>>,
+    ports: &[u16],
+)
+    requires next { MatchOption next (kept.old.items ≡ ports.now) (λ copy. copy.items ≡ ports.now) }
+    requires ordered { AreInOrder by_address.old.entries }
+    requires timed { StandAt by_time.old.keys by_address.old.entries }
+    requires at_ports { kept.old.items ≡ ports.now → AreAt ports.now by_address.old.entries }
+    ensures entries { by_address.new.entries ≡ at_ports ports.now by_address.old.entries }
+    ensures ordered { AreInOrder by_address.new.entries }
+    ensures timed { StandAt by_time.new.keys by_address.new.entries }
+    ensures at_ports { AreAt kept.new.items by_address.new.entries }
+{
+    if let Some(next) = next {
+        drop_ports(by_address, ports);
+        drop_times(by_address, by_time);
+        *kept = next;
+    }
 }
 
 // Whether a time is so short ago that an entry stays.
@@ -114,7 +143,7 @@ pub fn drop_old(
 }
 
 // Puts an address in, or gives it its new port and time.
-fn learn(
+fn put(
     by_address: &mut BTreeMap<Address, Seen>,
     by_time: &mut BTreeSet<(u64, Address)>,
     address: Address,
@@ -122,30 +151,32 @@ fn learn(
 ) -> Result<(), AllocError>
     requires ordered { AreInOrder by_address.old.entries }
     requires timed { StandAt by_time.old.keys by_address.old.entries }
-    ensures entries { OnOk result (by_address.new.entries ≡ learnt address seen by_address.old.entries) }
+    ensures entries { OnOk result
+        (by_address.new.entries ≡ insert_entry address_order by_address.old.entries address seen) }
     ensures unchanged { OnErr result (by_address.new.entries ≡ by_address.old.entries) }
     ensures ordered { AreInOrder by_address.new.entries }
     ensures timed { StandAt by_time.new.keys by_address.new.entries }
     ensures at_ports { (ports : List ℕ) → is_among ports seen.port ≡ true
         → AreAt ports by_address.old.entries → AreAt ports by_address.new.entries }
-    ensures few { length by_address.old.entries ≤ MOST → length by_address.new.entries ≤ MOST }
 {
-    let known = seen_at(by_address, address);
-    if known.is_none() && by_address.len() >= MOST {
-        return Ok(());
-    }
     by_time.insert((seen.time, address))?;
-    by_address.insert(address, seen)?;
-    if let Some(before) = known {
-        if before.time != seen.time {
-            by_time.remove(&(before.time, address));
+    match by_address.insert(address, seen) {
+        Ok(Some(before)) => {
+            if before.time != seen.time {
+                by_time.remove(&(before.time, address));
+            }
+            Ok(())
+        }
+        Ok(None) => Ok(()),
+        Err(failed) => {
+            by_time.remove(&(seen.time, address));
+            Err(AllocError::from(failed))
         }
     }
-    Ok(())
 }
 
-// Learns the source of a frame, if it is one address.
-pub fn learn_source(
+// Puts the source of a frame in, if it is one address.
+pub fn put_source(
     by_address: &mut BTreeMap<Address, Seen>,
     by_time: &mut BTreeSet<(u64, Address)>,
     frame: &[u8],
@@ -154,19 +185,39 @@ pub fn learn_source(
     requires long { 14 ≤ length frame.now }
     requires ordered { AreInOrder by_address.old.entries }
     requires timed { StandAt by_time.old.keys by_address.old.entries }
-    ensures entries { OnOk result (by_address.new.entries
-        ≡ learnt_from frame.now seen by_address.old.entries) }
+    ensures entries { OnOk result (by_address.new.entries ≡ put_from frame.now seen by_address.old.entries) }
     ensures unchanged { OnErr result (by_address.new.entries ≡ by_address.old.entries) }
     ensures ordered { AreInOrder by_address.new.entries }
     ensures timed { StandAt by_time.new.keys by_address.new.entries }
     ensures at_ports { (ports : List ℕ) → is_among ports seen.port ≡ true
         → AreAt ports by_address.old.entries → AreAt ports by_address.new.entries }
-    ensures few { length by_address.old.entries ≤ MOST → length by_address.new.entries ≤ MOST }
 {
     if is_group(frame[6]) {
         return Ok(());
     }
-    learn(by_address, by_time, source(frame), seen)
+    put(by_address, by_time, source(frame), seen)
+}
+
+// Takes a frame's source away again, where there are more addresses than there may be.
+pub fn trim(
+    by_address: &mut BTreeMap<Address, Seen>,
+    by_time: &mut BTreeSet<(u64, Address)>,
+    frame: &[u8],
+    now: u64,
+)
+    requires long { 14 ≤ length frame.now }
+    requires ordered { AreInOrder by_address.old.entries }
+    requires timed { StandAt by_time.old.keys by_address.old.entries }
+    ensures entries { by_address.new.entries ≡ trimmed (source_of frame.now) by_address.old.entries }
+    ensures ordered { AreInOrder by_address.new.entries }
+    ensures timed { StandAt by_time.new.keys by_address.new.entries }
+    ensures part { IsPartOf by_address.old.entries by_address.new.entries }
+{
+    if by_address.len() > MOST {
+        let address = source(frame);
+        by_address.remove(&address);
+        by_time.remove(&(now, address));
+    }
 }
 
 // Adds the ports but this one.

@@ -3,7 +3,7 @@ use Rattle.std.proofs.lemmas.Map.Made.{filter_same_pairs}
 use Rattle.tap_bridge.specs.Bridge.{is_among}
 use Rattle.tap_bridge.specs.declared.address.Seen.{Seen}
 use Rattle.tap_bridge.proofs.Tables.{filter_part}
-use Rattle.tap_bridge.proofs.table.drop_gone.Goals as goal
+use Rattle.tap_bridge.proofs.table.drop_ports.Goals as goal
 
 pub returns-clause-entries : goal.returns-clause-entries
 returns-clause-entries c =
