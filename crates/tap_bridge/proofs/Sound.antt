@@ -1,23 +1,23 @@
 -- What holds of tables and answers, whatever frames came.
-use Rattle.std.proofs.Common.{◌≡◌, ◌≢◌, ℕ, suc, ◌+◌, ◌<◌, ◌≤◌, ◌||◌, ◌==◌, not, Bool, true, false, cond, nat_lt, List, [], ◌∷◌, length, filter, map, Option, None, Some, refl, sym, ap, subst, ◌∙◌, arith}
+use Rattle.std.proofs.Common.{◌≡◌, ◌≢◌, ℕ, suc, ◌+◌, ◌<◌, ◌≤◌, ◌||◌, ◌==◌, not, Bool, true, false, cond, nat_lt, List, [], ◌∷◌, length, filter, Option, None, Some, refl, sym, ap, subst, ◌∙◌, arith}
 use Rattle.std.specs.Prelude.{is_some}
-use Rattle.std.specs.List.{list_any, AllByRecursion}
+use Rattle.std.specs.List.{AllByRecursion}
 use Rattle.std.specs.List.Sorted.{IsStrictlySortedBy}
 use Rattle.std.specs.Ordering.{nat_cmp, match_ordering, is_eq, ordering_reverse}
-use Rattle.std.specs.Cmp.{IsTotalOrder, eq_by_cmp_equiv}
+use Rattle.std.specs.Cmp.{eq_by_cmp_equiv}
 use Rattle.std.specs.BTreeMap.{insert_entry, is_at}
-use Rattle.std.specs.Map.{lookup, keys_of, remove_entry}
+use Rattle.std.specs.Map.{keys_of, remove_entry}
 use Rattle.std.specs.declared.cmp.Ordering.{Ordering}
 use Rattle.std.specs.declared.cmp.Ordering.TheVariants.{Less, Equal, Greater}
 use Rattle.std.proofs.lemmas.Bool.Decides.{nat_tests}
 use Rattle.tap_bridge.specs.declared.address.Address.{Address}
 use Rattle.tap_bridge.specs.declared.address.Seen.{Seen}
-use Rattle.tap_bridge.specs.Bridge.{Table, address_order, found, is_young, young, is_among, at_ports, others, toward, sent_on, kept, learnt, learnt_from, table_after, source, destination, is_from_group, is_to_group}
-use Rattle.tap_bridge.specs.Kept.{AreInOrder, AreAt, IsPartOf}
+use Rattle.tap_bridge.specs.Bridge.{Table, address_order, found, is_young, young, is_among, at_ports, others, toward, kept, learnt, learnt_from, table_after, source, destination, is_from_group, is_to_group}
+use Rattle.tap_bridge.specs.Kept.{AreInOrder}
 use Rattle.tap_bridge.specs.Without.{put_from, trimmed}
-use Rattle.tap_bridge.specs.Calls.{Call, IsGood, table_of, answer_to}
+use Rattle.tap_bridge.specs.Calls.{Call, table_of}
 use Rattle.tap_bridge.specs.Laws.{IsSound, TablesAreSound, IsSoundAnswer, AnswersAreSound, AgainIsTheSame}
-use Rattle.tap_bridge.proofs.Tables.{address_total, address_exact, filter_fewer, filter_part, filter_known}
+use Rattle.tap_bridge.proofs.Tables.{address_total, address_exact, filter_fewer}
 
 -- What holds of each of a list holds of each of a filter of it.
 filter_each : {X : Type 0} (P : X → Type 0) (p : X → Bool) (xs : List X) → AllByRecursion P xs → AllByRecursion P (filter p xs)

@@ -1,8 +1,8 @@
 -- This project's own, after the usual learning bridge: the table of the addresses that a bridge learnt, what a
 -- frame does to it, and at which ports the frame is sent on.
-use Rattle.std.specs.Prelude.{ℕ, ◌+◌, ◌-◌, ◌%◌, ◌==◌, Bool, not, nat_lt, ◌||◌, if◌then◌else◌, List, [], ◌∷◌, length, filter, map, slice_index, Option, None, Some, is_some}
+use Rattle.std.specs.Prelude.{ℕ, ◌+◌, ◌%◌, ◌==◌, Bool, not, nat_lt, ◌||◌, if◌then◌else◌, List, [], ◌∷◌, length, filter, map, slice_index, Option, None, Some, is_some}
 use Rattle.std.specs.List.{list_any}
-use Rattle.std.specs.Ordering.{nat_cmp, ordering_then}
+use Rattle.std.specs.Ordering.{nat_cmp}
 use Rattle.std.specs.declared.cmp.Ordering.{Ordering}
 use Rattle.std.specs.Cmp.Lexicographic.{slice_cmp}
 use Rattle.std.specs.BTreeMap.{insert_entry, is_at}

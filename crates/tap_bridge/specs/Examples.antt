@@ -1,5 +1,5 @@
 -- This project's own: worked examples of a bridge's table.
-use Rattle.std.specs.Prelude.{◌≡◌, ℕ, ◌+◌, ◌/◌, ◌%◌, zero, suc, List, [], ◌∷◌, length, Option, None, Some}
+use Rattle.std.specs.Prelude.{◌≡◌, ℕ, ◌+◌, ◌/◌, ◌%◌, zero, suc, List, [], ◌∷◌, length, None, Some}
 use Rattle.tap_bridge.specs.declared.address.Address.{Address}
 use Rattle.tap_bridge.specs.declared.address.Seen.{Seen}
 use Rattle.tap_bridge.specs.Bridge.{Table, found, learnt, kept, table_after, sent_on}

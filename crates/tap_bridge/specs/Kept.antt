@@ -1,15 +1,14 @@
 -- This project's own: how a bridge keeps its table.
-use Rattle.std.specs.Prelude.{◌≡◌, ℕ, ◌+◌, ◌≤◌, Bool, nat_lt, true, List, length, Option, None, Some, if◌then◌else◌, IsTrue}
-use Rattle.std.specs.List.{list_any, AllByRecursion}
+use Rattle.std.specs.Prelude.{◌≡◌, ℕ, Bool, true, List, Some}
+use Rattle.std.specs.List.{list_any}
 use Rattle.std.specs.List.Sorted.{IsStrictlySortedBy}
 use Rattle.std.specs.Ordering.{nat_cmp, ordering_then}
 use Rattle.std.specs.declared.cmp.Ordering.{Ordering}
 use Rattle.std.specs.BTreeMap.{is_at}
-use Rattle.std.specs.Map.{keys_of, remove_entry}
+use Rattle.std.specs.Map.{keys_of}
 use Rattle.tap_bridge.specs.declared.address.Address.{Address}
 use Rattle.tap_bridge.specs.declared.address.Seen.{Seen}
-use Rattle.tap_bridge.specs.declared.address.TheConstants.{MOST}
-use Rattle.tap_bridge.specs.Bridge.{Table, address_order, is_among, is_young, found}
+use Rattle.tap_bridge.specs.Bridge.{Table, address_order, is_among, found}
 
 -- the order of times and, at one time, of addresses
 abbrev pub time_order : ℕ × Address → ℕ × Address → Ordering

@@ -5,7 +5,7 @@ use Rattle.std.specs.List.Sorted.{IsStrictlySortedBy}
 use Rattle.std.specs.Ordering.{nat_cmp}
 use Rattle.tap_bridge.specs.declared.address.TheConstants.{MOST}
 use Rattle.tap_bridge.specs.Bridge.{Table, is_among, kept, table_after}
-use Rattle.tap_bridge.specs.Kept.{AreInOrder, AreAt}
+use Rattle.tap_bridge.specs.Kept.{AreInOrder}
 use Rattle.tap_bridge.specs.Calls.{Call, IsGood, table_of, answer_to}
 
 -- the addresses rise, so none stands twice, and there are at most 4,096

@@ -1,7 +1,6 @@
 -- This project's own: the steps by which a table changes, one address at a time.
 use Rattle.std.specs.Prelude.{ℕ, ◌==◌, Bool, false, nat_lt, List, length, Option, None, Some, if◌then◌else◌}
 use Rattle.std.specs.Option.{option_map_or}
-use Rattle.std.specs.Ordering.{nat_cmp}
 use Rattle.std.specs.BTreeMap.{is_at, insert_entry}
 use Rattle.std.specs.Map.{remove_entry}
 use Rattle.tap_bridge.specs.declared.address.Address.{Address}

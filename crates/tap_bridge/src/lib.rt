@@ -12,6 +12,8 @@ mod address;
 mod bridge;
 mod laws;
 mod table;
+#[cfg(test)]
+mod tests;
 
 pub use crate::address::{Address, MOST, STAY, Seen};
 pub use crate::bridge::Bridge;

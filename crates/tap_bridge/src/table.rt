@@ -198,6 +198,13 @@ pub fn put_source(
     put(by_address, by_time, source(frame), seen)
 }
 
+// Whether there are more addresses than there may be.
+fn is_over(by_address: &BTreeMap<Address, Seen>) -> bool
+    ensures { result ≡ nat_lt MOST (length by_address.now.entries) }
+{
+    by_address.len() > MOST
+}
+
 // Takes a frame's source away again, where there are more addresses than there may be.
 pub fn trim(
     by_address: &mut BTreeMap<Address, Seen>,
@@ -213,7 +220,7 @@ pub fn trim(
     ensures timed { StandAt by_time.new.keys by_address.new.entries }
     ensures part { IsPartOf by_address.old.entries by_address.new.entries }
 {
-    if by_address.len() > MOST {
+    if is_over(by_address) {
         let address = source(frame);
         by_address.remove(&address);
         by_time.remove(&(now, address));

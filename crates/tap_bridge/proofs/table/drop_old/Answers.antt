@@ -1,4 +1,4 @@
-use Rattle.std.proofs.Common.{◌≡◌, ◌∙◌, ap, sym}
+use Rattle.std.proofs.Common.{◌∙◌, ap, sym}
 use Rattle.tap_bridge.specs.Bridge.{Table, young, is_young}
 use Rattle.tap_bridge.proofs.Tables.{stale_gone, popped, part_trans, all_young, filter_fewer}
 use Rattle.tap_bridge.proofs.table.drop_old.Goals as goal

@@ -1,4 +1,4 @@
-use Rattle.std.proofs.Common.{◌≡◌, ◌≤◌, length}
+use Rattle.std.proofs.Common.{◌≡◌, length}
 use Rattle.tap_bridge.specs.Bridge.{young}
 use Rattle.tap_bridge.specs.Kept.{StandAt, AreInOrder, IsPartOf}
 use Rattle.tap_bridge.proofs.table.drop_old.Given as goal

@@ -1,4 +1,4 @@
-use Rattle.std.proofs.Common.{◌≡◌, ◌≢◌, ◌∙◌, ap, sym, Some, None}
+use Rattle.std.proofs.Common.{◌≡◌, ◌≢◌, ◌∙◌, ap, sym, Some}
 use Rattle.tap_bridge.specs.declared.address.Seen.{Seen}
 use Rattle.tap_bridge.specs.Bridge.{found}
 use Rattle.tap_bridge.specs.Kept.{StandAt}
