@@ -12,11 +12,11 @@ use Rattle.std.specs.declared.cmp.Ordering.TheVariants.{Less, Equal, Greater}
 use Rattle.std.proofs.lemmas.Bool.Decides.{nat_tests}
 use Rattle.tap_bridge.specs.declared.address.Address.{Address}
 use Rattle.tap_bridge.specs.declared.address.Seen.{Seen}
-use Rattle.tap_bridge.specs.Bridge.{Table, address_order, found, is_young, young, is_among, at_ports, others, toward, kept, learnt, learnt_from, table_after, source, destination, is_from_group, is_to_group}
+use Rattle.tap_bridge.specs.Bridge.{Table, address_order, found, is_young, young, is_among, at_ports, others, toward, kept, learnt, table_after, source, destination, is_from_group, is_to_group}
 use Rattle.tap_bridge.specs.Kept.{AreInOrder}
-use Rattle.tap_bridge.specs.Without.{put_from, trimmed}
+use Rattle.tap_bridge.specs.Steps.{put_from, trimmed}
 use Rattle.tap_bridge.specs.Calls.{Call, table_of}
-use Rattle.tap_bridge.specs.Laws.{IsSound, TablesAreSound, IsSoundAnswer, AnswersAreSound, AgainIsTheSame}
+use Rattle.tap_bridge.specs.Laws.{IsSound, TablesAreSound, IsSoundAnswer, AnswersAreSound}
 use Rattle.tap_bridge.proofs.Tables.{address_total, address_exact, filter_fewer}
 
 -- What holds of each of a list holds of each of a filter of it.
@@ -36,10 +36,6 @@ filter_passed {X} p (x ∷ xs) = by_test (p x) refl (filter_passed p xs)
     by_test : (b : Bool) → p x ≡ b → AllByRecursion (λ y. p y ≡ true) (filter p xs) → AllByRecursion (λ y. p y ≡ true) (cond b (x ∷ filter p xs) (filter p xs))
     by_test true e rest = (e, rest)
     by_test false e rest = rest
-
-filter_same : {X : Type 0} (p : X → Bool) (xs : List X) → AllByRecursion (λ x. p x ≡ true) xs → filter p xs ≡ xs
-filter_same p [] h = refl
-filter_same {X} p (x ∷ xs) h = rw h.0 (ap (λ (rest : List X). x ∷ rest) (filter_same p xs h.1))
 
 -- a filter of a list in order is in order
 keys_each : (P : Address → Type 0) (p : Address × Seen → Bool) (es : Table) → AllByRecursion P (keys_of es) → AllByRecursion P (keys_of (filter p es))
@@ -250,17 +246,6 @@ answers_are_sound c before good = by_test (is_to_group c.frame)
     by_test : (b : Bool) → IsSoundAnswer c (cond b (others c.port c.ports) (toward c.port c.ports (found (destination c.frame) (table_of (c ∷ before)))))
     by_test true = all
     by_test false = by_known (found (destination c.frame) (table_of (c ∷ before))) refl
-
--- what stays stays again
-kept_again : (now : ℕ) (ports : List ℕ) (table : Table) → kept now ports (kept now ports table) ≡ kept now ports table
-kept_again now ports table =
-    ap (λ (t : Table). young now t) (filter_same (λ e. is_among ports e.1.port) (kept now ports table)
-    (filter_each (λ e. is_among ports e.1.port ≡ true) (λ e. is_young now e.1.time) (at_ports ports table) (filter_passed (λ e. is_among ports e.1.port) table)))
-    ∙ filter_same (λ e. is_young now e.1.time) (kept now ports table) (filter_passed (λ e. is_young now e.1.time) (at_ports ports table))
-
-pub again_is_the_same : AgainIsTheSame
-again_is_the_same port frame now ports table =
-    ap (λ (t : Table). learnt_from frame (record { port = port; time = now }) t) (kept_again now ports table)
 
 -- An address that is put in before what goes away goes.
 

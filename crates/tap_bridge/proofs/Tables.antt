@@ -17,7 +17,7 @@ use Rattle.tap_bridge.specs.declared.address.Address.{Address}
 use Rattle.tap_bridge.specs.declared.address.Seen.{Seen}
 use Rattle.tap_bridge.specs.Bridge.{Table, address_order, found, is_young, young, is_among}
 use Rattle.tap_bridge.specs.Kept.{time_order, has_time, StandAt, AreInOrder, AreAt, IsPartOf}
-use Rattle.tap_bridge.specs.Without.{without_known, without_stale, is_time_of}
+use Rattle.tap_bridge.specs.Steps.{without_known, without_stale, is_time_of}
 
 -- The two orders.
 

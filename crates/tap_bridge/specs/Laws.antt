@@ -4,7 +4,7 @@ use Rattle.std.specs.List.{AllByRecursion}
 use Rattle.std.specs.List.Sorted.{IsStrictlySortedBy}
 use Rattle.std.specs.Ordering.{nat_cmp}
 use Rattle.tap_bridge.specs.declared.address.TheConstants.{MOST}
-use Rattle.tap_bridge.specs.Bridge.{Table, is_among, kept, table_after}
+use Rattle.tap_bridge.specs.Bridge.{Table, is_among}
 use Rattle.tap_bridge.specs.Kept.{AreInOrder}
 use Rattle.tap_bridge.specs.Calls.{Call, IsGood, table_of, answer_to}
 
@@ -26,8 +26,3 @@ pub record IsSoundAnswer (c : Call) (answer : List ℕ) : Type 0 where
 -- so is each, after any frames
 abbrev pub AnswersAreSound : Type 0
 AnswersAreSound = (c : Call) (before : List Call) → IsGood c → IsSoundAnswer c (answer_to c before)
-
--- a frame that is given again, where what goes away at it is gone already, does the same
-abbrev pub AgainIsTheSame : Type 0
-AgainIsTheSame = (port : ℕ) (frame : List ℕ) (now : ℕ) (ports : List ℕ) (table : Table)
-    → table_after port frame now ports (kept now ports table) ≡ table_after port frame now ports table

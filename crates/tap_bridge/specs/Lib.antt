@@ -1,7 +1,7 @@
 pub mod Bridge
-pub mod Calls
 pub mod Kept
-pub mod Without
 pub mod Steps
-pub mod Examples
+pub mod Inside
+pub mod Calls
 pub mod Laws
+pub mod Examples

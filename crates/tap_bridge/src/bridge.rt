@@ -1,6 +1,7 @@
 //! A learning bridge.
 ghost use Rattle.std.specs.Prelude.{◌≡◌, ◌≤◌, true, [], length, IfOk, OnOk, OnErr};
 ghost use Rattle.tap_bridge.specs.Bridge.{is_among, table_after, sent_on};
+ghost use Rattle.tap_bridge.specs.Kept.{AreInOrder};
 
 use crate::address::{Address, MOST, Seen};
 use crate::table::{drop_old, fill, keep_ports, new_ports, put_source, trim};
@@ -22,7 +23,7 @@ impl Model for Bridge {
 
     ghost Value = { Table };
 
-    ghost use Rattle.tap_bridge.specs.Steps.{IsKept};
+    ghost use Rattle.tap_bridge.specs.Inside.{IsKept};
 
     ghost view = { λ b. b.by_address.entries };
 
@@ -46,6 +47,7 @@ impl Bridge {
     pub fn len(&self) -> usize
         ensures len { result ≡ length self.now }
         ensures few { result ≤ MOST }
+        ensures distinct { AreInOrder self.now }
     {
         self.by_address.len()
     }

@@ -1,14 +1,13 @@
 //! What holds of a bridge, and worked examples, as contracts of functions that do nothing.
-ghost use Rattle.tap_bridge.specs.Laws.{TablesAreSound, AnswersAreSound, AgainIsTheSame};
+ghost use Rattle.tap_bridge.specs.Laws.{TablesAreSound, AnswersAreSound};
 ghost use Rattle.tap_bridge.specs.Examples.{Frames, Ages, Full};
 
 /// After any frames no address stands twice in the table, and there are at most 4,096. No port stands
 /// twice in an answer, each is one of the ports that are there, and none is that at which the frame
-/// came in. A frame may be given again where what goes away at it is gone already.
+/// came in.
 pub fn bridges_are_sound()
     ensures tables { TablesAreSound }
     ensures answers { AnswersAreSound }
-    ensures again { AgainIsTheSame }
 {}
 
 /// What is learnt, where frames go, what goes away, and what a full table does.

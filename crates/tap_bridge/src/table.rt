@@ -4,7 +4,7 @@ ghost use Rattle.std.specs.List.{AllByRecursion};
 ghost use Rattle.std.specs.BTreeMap.{insert_entry};
 ghost use Rattle.tap_bridge.specs.Bridge.{is_among, at_ports, young, is_young, found, address_order, source as source_of, others, sent_on};
 ghost use Rattle.tap_bridge.specs.Kept.{StandAt, AreInOrder, AreAt, IsPartOf};
-ghost use Rattle.tap_bridge.specs.Without.{without_stale, is_time_of, put_from, trimmed};
+ghost use Rattle.tap_bridge.specs.Steps.{without_stale, is_time_of, put_from, trimmed};
 
 use crate::address::{Address, MOST, STAY, Seen, destination, is_group, source};
 use std::alloc::{AllocError, Global};

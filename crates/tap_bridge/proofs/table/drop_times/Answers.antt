@@ -1,6 +1,6 @@
 use Rattle.std.proofs.Common.{◌≡◌, filter, rules}
 use Rattle.std.proofs.lemmas.Fn.{filter_same}
-use Rattle.tap_bridge.specs.Without.{is_time_of}
+use Rattle.tap_bridge.specs.Steps.{is_time_of}
 use Rattle.tap_bridge.proofs.Tables.{times_kept}
 use Rattle.tap_bridge.proofs.table.drop_times.Goals as goal
 

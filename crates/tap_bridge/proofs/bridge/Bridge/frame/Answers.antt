@@ -1,7 +1,7 @@
 use Rattle.std.proofs.Common.{◌≡◌, ◌∙◌, ℕ, List, ap, subst}
 use Rattle.tap_bridge.specs.Bridge.{Table, at_ports, young, table_after, source, sent_on}
 use Rattle.tap_bridge.specs.Kept.{AreAt}
-use Rattle.tap_bridge.specs.Without.{trimmed}
+use Rattle.tap_bridge.specs.Steps.{trimmed}
 use Rattle.tap_bridge.specs.Laws.{IsSound}
 use Rattle.tap_bridge.proofs.Sound.{steps_are_one, after_sound}
 use Rattle.tap_bridge.proofs.bridge.Bridge.frame.Goals as goal
