@@ -1,5 +1,5 @@
 -- From what the steps of a put told to what the call promises.
-use Rattle.std.proofs.Common.{◌≡◌, ℕ, ◌+◌, ◌^◌, ◌<◌, [], ◌∷◌, ◌++◌, refl, sym, ap, ◌∙◌, subst, arith, ◌≤◌}
+use Rattle.std.proofs.Common.{◌≡◌, ℕ, ◌+◌, ◌^◌, ◌<◌, [], ◌∷◌, ◌++◌, refl, sym, ap, ◌∙◌, subst, inl, arith, ◌≤◌}
 use Rattle.tap_frame.specs.Frame.{FrameValue}
 use Rattle.tap_ring.specs.declared.rule.Moment.{Moment}
 use Rattle.tap_ring.specs.declared.rule.Claim.{Claim}
@@ -7,8 +7,8 @@ use Rattle.tap_ring.specs.declared.rule.View.{View}
 use Rattle.tap_ring.specs.GateWord.{claimed_of, is_shut, epoch_of, resizes_of}
 use Rattle.tap_ring.specs.Moments.{Fits, IsOpen, gate_of}
 use Rattle.tap_ring.specs.Standing.{EachClaim}
-use Rattle.tap_ring.specs.Steps.{IsNew, claim, seen_gate, seen_capacity, seen_freed, ClaimedThen}
-use Rattle.tap_ring.specs.Calls.{Placed, IsOpenWord}
+use Rattle.tap_ring.specs.Steps.{IsNew, claim, seen_gate, seen_capacity, seen_freed, ClaimedThen, MissedThen}
+use Rattle.tap_ring.specs.Calls.{Placed, IsContended, IsOpenWord}
 use Rattle.tap_ring.proofs.Kit.{parts_equal, gate_parts}
 
 -- the parts of a moment's gate word
@@ -36,6 +36,7 @@ placed_at epoch place frame v w m m3 new new3 is_open few free t =
         later = new.gate;
         mine = new.mine;
         order = new3.gate;
+        loaded_is = refl;
         capacity_loads = refl;
         freed_loads = refl;
         gate_loads = omega arith;
@@ -44,6 +45,7 @@ placed_at epoch place frame v w m m3 new new3 is_open few free t =
       same_gate = t.1;
       order = t.2.room;
       open_then = (same.1 ∙ is_open.0, same.2 ∙ is_open.1);
+      same_capacity = sym (t.2.asked.capacity (sym same.3));
       room = t.3;
       place_is = at;
       bound = omega (arith, at, same_claimed, few);
@@ -61,3 +63,39 @@ placed_then epoch place gate freed capacity frame v v1 v2 v3 w m m3 is new one c
     let named : capacity ≡ m.capacity = cap ∙ ap (λ (x : View). x.gate.capacity) one in
     placed_at epoch place frame v w m m3 new (subst (λ (x : View). IsNew x m3) second new3) o.0 o.1 (omega (arith, first, named, freed_is, free))
     (subst (λ (x : View). ClaimedThen frame place x w) (three ∙ ap (seen_freed m3) second) t)
+
+missed_at : (epoch found resizes : ℕ) (v w : View) (m m3 : Moment) → IsNew v m → IsNew (seen_capacity (seen_gate m v)) m3 → IsOpen epoch m → m.claimed + 1 < 2 ^ 40 → m.claimed < m3.freed + m.capacity → resizes ≡ m.resizes
+    → MissedThen (gate_of m) found (seen_freed m3 (seen_capacity (seen_gate m v))) w → IsContended epoch (gate_of m) found resizes v w
+missed_at epoch found resizes v w m m3 new new3 is_open few free resizes_is t =
+    subst (IsContended epoch (gate_of m) found resizes v) (sym t.4) (record {
+      asked = record {
+        open_then = is_open;
+        unspent = λ spent. omega (arith, spent, few);
+        later = new.gate;
+        mine = new.mine;
+        order = new3.gate;
+        loaded_is = refl;
+        capacity_loads = refl;
+        freed_loads = refl;
+        gate_loads = omega arith;
+      };
+      expected_is = refl;
+      found_is = t.1;
+      order = t.3.room;
+      differ = t.2;
+      resizes_is = resizes_is;
+      cause = inl (λ (full : m3.freed + m.capacity ≤ m.claimed). omega (arith, full, free));
+    })
+
+pub missed_then : (epoch gate found resizes freed capacity : ℕ) (v v1 v2 v3 w : View) (m m3 : Moment) → gate ≡ gate_of m → IsNew v m → v1 ≡ seen_gate m v
+    → capacity ≡ v1.gate.capacity → v2 ≡ seen_capacity v1 → freed ≡ m3.freed → IsNew v2 m3 → v3 ≡ seen_freed m3 v2
+    → IsOpenWord epoch gate → claimed_of gate < freed + capacity → resizes ≡ resizes_of gate → MissedThen gate found v3 w → IsContended epoch gate found resizes v w
+missed_then epoch gate found resizes freed capacity v v1 v2 v3 w m m3 is new one cap two freed_is new3 three is_open free resizes_is t =
+    let o = open_word epoch m new.fits (subst (IsOpenWord epoch) is is_open) in
+    let parts = word_parts m new.fits in
+    let second : v2 ≡ seen_capacity (seen_gate m v) = two ∙ ap seen_capacity one in
+    let first : claimed_of gate ≡ m.claimed = ap claimed_of is ∙ parts.0 in
+    let named : capacity ≡ m.capacity = cap ∙ ap (λ (x : View). x.gate.capacity) one in
+    subst (λ n. IsContended epoch n found resizes v w) (sym is)
+    (missed_at epoch found resizes v w m m3 new (subst (λ (x : View). IsNew x m3) second new3) o.0 o.1 (omega (arith, first, named, freed_is, free)) (resizes_is ∙ ap resizes_of is ∙ parts.3)
+    (subst (λ (x : ℕ × View). MissedThen x.0 found x.1 w) (λ i. (is i, (three ∙ ap (seen_freed m3) second) i)) t))

@@ -19,6 +19,7 @@ use Rattle.tap_ring.specs.Moments.{HasRoom, gate_of, capacity_at}
 use Rattle.tap_ring.specs.Standing.{RingState, Placing, Standing, slots_of, slot_at, word_at, IsEntered, IsPlace, EachClaim, Knows, Ring, times}
 use Rattle.tap_ring.specs.Steps.{Seated, claim, with_claim, seen_gate, Exchanges}
 use Rattle.tap_ring.proofs.Kit.{off, some_not_none, some_is, set_there, parts_equal, past_stays, entered_longer, entered_below, each_append, each_map, total_set, times-append, within_more, slots_apart}
+use Rattle.tap_ring.proofs.Counts.{turns_claim, sizes_same}
 use Rattle.tap_ring.proofs.Stays.{Apart, seats_set, place_stays, word_same, home_same, frames_front}
 use Rattle.tap_ring.proofs.Loads.{past_now, new_now, hand_set, looked, gate_knows}
 
@@ -35,7 +36,7 @@ module _ (plan : Plan) where
   place_words_apart ws i n k lt = get_or-set_other ws i (130 + k) n 0 (λ e. omega (arith, e, lt))
 
   module _ (s : RingState) (r : Ring plan s) (by : ℕ) (v : View) (c : Claim) (n : ℕ) (at : get_elem? s.views by ≡ some v) (live : v.spent ≡ false) (idle : v.putting ≡ None) (part : v.parts ≢ 0)
-      (room : HasRoom r.h.now) (place : c.place ≡ r.h.now.claimed) (few : r.h.now.claimed + 1 < 2 ^ 40) (unshut : r.h.now.shut ≡ false)
+      (room : HasRoom r.h.now) (place : c.place ≡ r.h.now.claimed) (few : r.h.now.claimed + 1 < 2 ^ 40) (unshut : r.h.now.shut ≡ false) (epoch : c.epoch ≡ r.h.now.epoch)
       (word : n ≡ gate_of (record r.h.now { claimed = r.h.now.claimed + 1 })) where
     abbrev q : ℕ
     q = r.h.now.claimed
@@ -109,6 +110,8 @@ module _ (plan : Plan) where
       keeper = refl;
       front = λ _. (refl, refl, (λ e. place_word r.h.lifted ∙ e));
       gate = λ _. (refl, refl, refl, (λ e. absurd (off (sym unshut ∙ e))), (λ _. caps_apart s.words 0 n (r.h.now.resizes + 1) (omega arith)));
+      turns = λ _. (refl, refl);
+      given = λ _ _ e. e;
       putting = λ j d ne e low word. (low, subst (λ m. m ≤ d.place) (sym (place_word d.place)) word);
     }
 
@@ -153,6 +156,8 @@ module _ (plan : Plan) where
                 claimed = λ e. absurd (off (sym unshut ∙ e));
                 stored = λ x is. let y = g.stored x is in (y.0, caps_apart s.words 0 n (r.h.now.resizes + 1) (omega arith) ∙ y.1, subst (λ m. x ≤ m) (sym slots) y.2);
               };
+          turns = k.turns;
+          sizes = k.sizes;
           gate = λ _. past_stays s.words s'.words r.h.now h'.now r.h.now others.goes (past_now plan s r);
           asked = λ t. past_stays s.words s'.words r.h.now h'.now v.asked others.goes (k.asked t);
           room = λ t. past_stays s.words s'.words r.h.now h'.now v.room others.goes (k.room t);
@@ -180,6 +185,8 @@ module _ (plan : Plan) where
           behind = omega (arith, behind);
           ahead = subst (λ m. q + 1 ≤ r.h.now.freed + m) (sym slots) (let e = in_window in omega (arith, e));
           long = let l = r.long in let a = length-append r.h.log (record { by = by; claim = c } ∷ []) in omega (arith, l, a);
+          turns = turns_claim plan.first q r.h.now.epoch r.h.log r.h.opened (record { by = by; claim = c }) r.long epoch r.turns;
+          sizes = sizes_same plan.capacity s.words s'.words r.h.now.resizes r.h.resized others.goes.caps r.sizes;
           places = λ p a b. ⊎_elim
               (λ (t : (eqb p q ≡ true) × (p ≡ q)). subst (λ m. IsPlace plan.first s' h' m) (sym t.1) new_place)
               (λ (t : (eqb p q ≡ false) × (p ≢ q)). other_place p t.1 a (subst (λ m. p < r.h.now.freed + m) slots b))
@@ -235,7 +242,7 @@ module _ (plan : Plan) where
         w,
         takes (slot_at s now.claimed) None,
         (r.places now.claimed (omega (arith, below, behind)) (omega (arith, room, small))).spare (le_refl now.claimed),
-        claimed_ring s r by v.0 (claim now.claimed now.epoch frame) (either (eqb x old) new x) at live idle part room refl (omega (arith, few, same_claimed)) (same.1 ∙ unshut) stored,
+        claimed_ring s r by v.0 (claim now.claimed now.epoch frame) (either (eqb x old) new x) at live idle part room refl (omega (arith, few, same_claimed)) (same.1 ∙ unshut) refl stored,
         (
           now,
           r.gate,

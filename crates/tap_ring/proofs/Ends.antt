@@ -1,6 +1,6 @@
 -- What the rule says once all producers' claims are with the consumer's seat: whose each place is, and what lies in each slot.
 use Rattle.std.proofs.Common.{◌≡◌, ◌≢◌, ◌⊎◌, ℕ, zero, suc, ◌+◌, ◌-◌, ◌%◌, ◌≤◌, ◌<◌, eqb, List, [], ◌∷◌, ◌++◌, take, drop, length, Some, None, Option, true, false, refl, sym, ap, ◌∙◌, subst, ⊎_elim, arith, length-append, length-drop, take-append-drop, mod-lt}
-use Rattle.std.specs.Prelude.{slice_index}
+use Rattle.std.specs.Prelude.{slice_index, slice_index_or, Contains}
 use Rattle.std.proofs.lemmas.Bool.Decides.{eqb_tells}
 use Rattle.std.proofs.lemmas.List.{length-map}
 use mathlib.Core.Option.{some, some-ne-none, some-injective}
@@ -13,11 +13,13 @@ use Rattle.tap_ring.specs.declared.rule.Claim.{Claim}
 use Rattle.tap_ring.specs.declared.rule.View.{View}
 use Rattle.tap_ring.specs.declared.rule.Plan.{Plan}
 use Rattle.tap_ring.specs.GateWord.{claimed_of}
+use Rattle.tap_ring.specs.Turns.{turns_to, EachGiven}
 use Rattle.tap_ring.specs.Standing.{RingState, Placing, slots_of, home_at, IsEntered, IsReady, IsClaimed, IsInHand, EachClaim, KnowsFront, Ring, frames_of, times, total, within}
 use Rattle.tap_ring.specs.Steps.{with_producer, with_keeper}
-use Rattle.tap_ring.specs.Calls.{Token, StandsIn, AllStand, IsEnd, claims_to}
+use Rattle.tap_ring.specs.Calls.{Token, StandsIn, AllClaims, AllGiven, EpochsNeverFall, IsEnd, claims_of, claims_to}
 use Rattle.tap_ring.specs.Leaving.{present, slots_from, gathered}
-use Rattle.tap_ring.proofs.Kit.{some_not_none, before_end, each_map, times-append}
+use Rattle.tap_ring.proofs.Kit.{some_not_none, before_end, each_append, each_map, times-append}
+use Rattle.tap_ring.proofs.Counts.{turns_rise, given_parts}
 use Rattle.tap_ring.proofs.Lines.{get_drop, slice_there, map_there, rotated, present_is}
 use Rattle.tap_ring.proofs.Causes.{word_parts}
 use Rattle.atomic_table.proofs.Lists.{at_map}
@@ -61,9 +63,36 @@ each_parts : (P : Claim → Type 0) (xs ys : List Claim) → EachClaim P (xs ++ 
 each_parts P [] ys e = (tt, e)
 each_parts P (x ∷ xs) ys e = let r = each_parts P xs ys e.1 in ((e.0, r.0), r.1)
 
-pub gathered_stand : (first : ℕ) (line : List FrameValue) (v : View) (all : List Token) → EachClaim (StandsIn first line) (gathered v all).mine → AllStand first line all
-gathered_stand first line v [] e = tt
-gathered_stand first line v (t ∷ ts) e = let r = each_parts (StandsIn first line) (gathered v ts).mine t.view.mine e in (r.1, gathered_stand first line v ts r.0)
+gathered_claims : (P : Claim → Type 0) (v : View) (all : List Token) → EachClaim P (gathered v all).mine → AllClaims P all
+gathered_claims P v [] e = tt
+gathered_claims P v (t ∷ ts) e = let r = each_parts P (gathered v ts).mine t.view.mine e in (r.1, gathered_claims P v ts r.0)
+
+gathered_given : (first : ℕ) (resized : List ℕ) (v : View) (all : List Token) → EachGiven first resized (gathered v all).loaded → AllGiven first resized all
+gathered_given first resized v [] e = tt
+gathered_given first resized v (t ∷ ts) e = let r = given_parts first resized (gathered v ts).loaded t.view.loaded e in (r.1, gathered_given first resized v ts r.0)
+
+-- ---- epochs along the places
+
+claims_each : (P : Claim → Type 0) (all : List Token) → AllClaims P all → EachClaim P (claims_of all)
+claims_each P [] a = tt
+claims_each P (t ∷ ts) a = each_append P t.view.mine (claims_of ts) a.0 (claims_each P ts a.1)
+
+each_there : (P : Claim → Type 0) (xs : List Claim) (c : Claim) → EachClaim P xs → Contains xs c → P c
+each_there P [] c a e = let lt = e.1 in absurd (omega (arith, lt))
+each_there P (x ∷ xs) c a e = go (each_there P xs c a.1) e.0 e.1 e.2
+  where
+    go : (Contains xs c → P c) → (k : ℕ) → k < length (x ∷ xs) → slice_index_or (x ∷ xs) k c ≡ c → P c
+    go behind zero lt is = subst P is a.0
+    go behind (suc k) lt is = behind (k, omega (arith, lt), is)
+
+-- who counts the reopenings up to a place never counts less at a further one
+epochs_rise : (opened : List ℕ) (all : List Token) → AllClaims (λ x. x.epoch ≡ turns_to x.place opened) all → EpochsNeverFall (claims_of all)
+epochs_rise opened all a c d in_c in_d le =
+    let each = claims_each (λ x. x.epoch ≡ turns_to x.place opened) all a in
+    let low = each_there (λ x. x.epoch ≡ turns_to x.place opened) (claims_of all) c each in_c in
+    let high = each_there (λ x. x.epoch ≡ turns_to x.place opened) (claims_of all) d each in_d in
+    let rise = turns_rise c.place d.place opened le in
+    omega (arith, low, high, rise)
 
 -- the consumer's part stays as it was
 pub gathered_front : (v : View) (all : List Token) → ((gathered v all).takes ≡ v.takes) × ((gathered v all).next ≡ v.next) × ((gathered v all).lifted ≡ v.lifted) × ((gathered v all).in_hand ≡ v.in_hand) × ((gathered v all).freed ≡ v.freed) × ((gathered v all).putting ≡ v.putting)
@@ -71,8 +100,8 @@ gathered_front v [] = (refl, refl, refl, refl, refl, refl)
 gathered_front v (t ∷ ts) = gathered_front v ts
 
 -- and the keeper's
-gathered_gate : (v : View) (all : List Token) → ((gathered v all).keeps ≡ v.keeps) × ((gathered v all).gate ≡ v.gate) × ((gathered v all).spent ≡ v.spent)
-gathered_gate v [] = (refl, refl, refl)
+gathered_gate : (v : View) (all : List Token) → ((gathered v all).keeps ≡ v.keeps) × ((gathered v all).gate ≡ v.gate) × ((gathered v all).spent ≡ v.spent) × ((gathered v all).opened ≡ v.opened) × ((gathered v all).resized ≡ v.resized)
+gathered_gate v [] = (refl, refl, refl, refl, refl)
 gathered_gate v (t ∷ ts) = gathered_gate v ts
 
 pub gathered_snoc : (v : View) (all : List Token) (t : Token) → gathered v (all ++ t ∷ []) ≡ gathered (with_producer v t.view) all
@@ -90,6 +119,12 @@ module _ (plan : Plan) (s : RingState) (r : Ring plan s) (id : ℕ) (w : View) (
       let t = two_of (λ (x : View). x.parts) s.views id j w b at there (λ e. ne (sym e)) in
       let o = r.parts in
       (r.seats j b there).claims.idle (omega (arith, t, o, parts))
+
+  -- each claim has the epoch of its place
+  pub epochs_mine : EachClaim (λ c. c.epoch ≡ turns_to c.place r.h.opened) w.mine
+  epochs_mine = each_map (λ c. (x : Placing) × IsEntered plan.first r.h.log c.place x × (x.claim ≡ c)) (λ c. c.epoch ≡ turns_to c.place r.h.opened) w.mine
+      (λ c t. sym (ap (λ (d : Claim). d.epoch) t.2) ∙ r.turns.claims c.place t.0 t.1)
+      (r.seats id w at).claims.mine
 
   pub once_mine : (p : ℕ) → times p w.mine ≡ within plan.first r.h.now.claimed p
   once_mine p = sym (all_of (λ (x : View). times p x.mine) s.views id w at (λ j b ne there. ap (times p) (others j b ne there).0)) ∙ r.once p
@@ -195,7 +230,7 @@ module _ (plan : Plan) (s : RingState) (r : Ring plan s) (id : ℕ) (w : View) (
 -- What is known once the table is closed.
 pub ended : (plan : Plan) (words : List ℕ) (slots : List (Option FrameValue)) (id n claimed : ℕ) (v k w : View) (all : List Token) → Final (Seen (Ring plan) id w) words slots → length slots ≡ n
     → w ≡ gathered (with_keeper v k) all → w.parts ≡ plan.producers → v.takes ≡ true → v.in_hand ≡ None → v.putting ≡ None → v.mine ≡ [] → v.spent ≡ false → claimed ≡ claimed_of (slice_index words 0)
-    → IsEnd plan.first all v k claimed v.freed v.next (present (slots_from (v.freed % n) slots))
+    → IsEnd plan all v k claimed v.freed v.next (present (slots_from (v.freed % n) slots))
 ended plan words slots id n claimed v k w all final count is parts takes_is empty idle none_mine live claimed_is =
     let s = final.0 in
     let r = final.1.0 in
@@ -213,6 +248,13 @@ ended plan words slots id n claimed v k w all final count is parts takes_is empt
     let next_w : w.next ≡ v.next = ap (λ (x : View). x.next) is ∙ g.1 in
     let lifted_w : w.lifted ≡ v.lifted = ap (λ (x : View). x.lifted) is ∙ g.2 in
     let now : claimed ≡ r.h.now.claimed = claimed_is ∙ ap (λ (ws : List ℕ). claimed_of (slice_index ws 0)) (sym final.2) ∙ ap claimed_of r.gate ∙ (word_parts r.h.now r.fits).0 in
+    let lists = (r.seats id w at).turns keeps_w in
+    let opened_k : r.h.opened ≡ k.opened = sym lists.0 ∙ ap (λ (x : View). x.opened) is ∙ q.3 in
+    let resized_k : r.h.resized ≡ k.resized = sym lists.1 ∙ ap (λ (x : View). x.resized) is ∙ q.4 in
+    let epochs : AllClaims (λ x. x.epoch ≡ turns_to x.place k.opened) all =
+        gathered_claims (λ x. x.epoch ≡ turns_to x.place k.opened) (with_keeper v k) all
+        (subst (λ (x : List ℕ × View). EachClaim (λ c. c.epoch ≡ turns_to c.place x.0) x.1.mine) (λ i. (opened_k i, is i))
+        (epochs_mine plan s r id w at takes_w empty_w idle_w parts)) in
     let counts = counts_mine plan s r id w at takes_w empty_w idle_w parts slots n final.3 count final.4 in
     let stand = stand_mine plan s r id w at takes_w empty_w idle_w parts slots n final.3 count final.4 in
     let line : w.lifted ++ present (slots_from (w.freed % n) slots) ≡ v.lifted ++ present (slots_from (v.freed % n) slots) = (λ i. lifted_w i ++ present (slots_from (freed_w i % n) slots)) in
@@ -228,9 +270,13 @@ ended plan words slots id n claimed v k w all final count is parts takes_is empt
       freed_is = refl;
       claimed_is = omega (arith, now, c0, lengths);
       once = λ p. sym (gathered_times p (with_keeper v k) all none_mine) ∙ ap (λ (x : View). times p x.mine) (sym is) ∙ once_mine plan s r id w at takes_w empty_w idle_w parts p ∙ ap (λ m. within plan.first m p) (sym now);
-      stand = gathered_stand plan.first (v.lifted ++ present (slots_from (v.freed % n) slots)) (with_keeper v k) all
+      stand = gathered_claims (StandsIn plan.first (v.lifted ++ present (slots_from (v.freed % n) slots))) (with_keeper v k) all
           (subst (λ (x : View). EachClaim (StandsIn plan.first (v.lifted ++ present (slots_from (v.freed % n) slots))) x.mine) is
           (subst (λ l. EachClaim (StandsIn plan.first l) w.mine) line stand));
+      epochs = epochs;
+      rising = epochs_rise k.opened all epochs;
+      capacities = gathered_given plan.capacity k.resized (with_keeper v k) all
+          (subst (λ (x : List ℕ × View). EachGiven plan.capacity x.0 x.1.loaded) (λ i. (resized_k i, is i)) (r.seats id w at).sizes);
       order = (omega (arith, c2, freed_w), omega (arith, c3, freed_w, next_w), omega (arith, c4, next_w, now));
       later = subst (λ (m : Moment). m.claimed ≤ claimed) gate_w (subst (λ m. w.gate.claimed ≤ m) (sym now) ((r.seats id w at).gate live_w).claimed);
       still = λ e. now ∙ sym (kept.claimed (ap (λ (m : Moment). m.shut) gate_w ∙ e)) ∙ ap (λ (m : Moment). m.claimed) gate_w;

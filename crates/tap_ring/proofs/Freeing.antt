@@ -11,6 +11,7 @@ use Rattle.tap_ring.specs.declared.rule.Plan.{Plan}
 use Rattle.tap_ring.specs.Standing.{RingState, Standing, slots_of, slot_at, word_at, IsPlace, KnowsFront, Knows, Ring, times}
 use Rattle.tap_ring.specs.Steps.{Seated, Frees}
 use Rattle.tap_ring.proofs.Kit.{past_stays, total_set}
+use Rattle.tap_ring.proofs.Counts.{sizes_same}
 use Rattle.tap_ring.proofs.Stays.{Apart, seats_set, place_stays}
 use Rattle.tap_ring.proofs.Loads.{still_set, hand_set}
 use Rattle.tap_ring.proofs.Claims.{caps_apart, place_words_apart}
@@ -79,6 +80,8 @@ module _ (plan : Plan) where
       keeper = refl;
       front = λ ne. absurd (ne (sym ffront.own));
       gate = λ _. (refl, refl, refl, (λ _. refl), (λ _. caps_apart plan s.words 1 n (r.h.now.resizes + 1) (omega arith)));
+      turns = λ _. (refl, refl);
+      given = λ _ _ e. e;
       putting = λ j c ne e le m. (le, subst (λ z. z ≤ c.place) (sym (fplace_word c.place)) m);
     }
 
@@ -107,6 +110,8 @@ module _ (plan : Plan) where
             claimed = g.claimed;
             stored = λ y is. let z = g.stored y is in (z.0, caps_apart plan s.words 1 n (r.h.now.resizes + 1) (omega arith) ∙ z.1, z.2);
           };
+      turns = fknows.turns;
+      sizes = fknows.sizes;
       gate = λ t. past_stays s.words fs.words r.h.now fh.now v.gate fothers.goes (fknows.gate t);
       asked = λ t. past_stays s.words fs.words r.h.now fh.now v.asked fothers.goes (fknows.asked t);
       room = λ t. past_stays s.words fs.words r.h.now fh.now v.room fothers.goes (fknows.room t);
@@ -131,6 +136,8 @@ module _ (plan : Plan) where
           behind = r.behind;
           ahead = omega (arith, ahead);
           long = r.long;
+          turns = r.turns;
+          sizes = sizes_same plan.capacity s.words fs.words r.h.now.resizes r.h.resized fothers.goes.caps r.sizes;
           places = λ p a b. ⊎_elim
               (λ (t : (eqb p (r.h.now.freed + slots_of s) ≡ true) × (p ≡ r.h.now.freed + slots_of s)). subst (λ m. IsPlace plan.first fs fh m) (sym t.1) new_reach)
               (λ (t : (eqb p (r.h.now.freed + slots_of s) ≡ false) × (p ≢ r.h.now.freed + slots_of s)). let ne = t.1 in old_reach p (omega (arith, a)) (omega (arith, b, ne)))

@@ -16,8 +16,7 @@ use Rattle.tap_ring.specs.Standing.{RingState, Placing, slots_of, slot_at, word_
 use Rattle.tap_ring.specs.Steps.{Seated, LoadsFront, seen_front}
 use Rattle.tap_ring.proofs.Kit.{some_not_none, some_is, set_there, goes_same, total_set, slots_apart}
 use Rattle.tap_ring.proofs.Stays.{Apart, seats_set, place_stays, word_same, home_same}
-use Rattle.tap_ring.proofs.Loads.{still_set, looked}
-use Rattle.tap_ring.proofs.Loads.{loaded}
+use Rattle.tap_ring.proofs.Loads.{still_set, looked, kept_words}
 
 module _ (plan : Plan) where
   -- ---- the load of the front place's number, where it is ready
@@ -78,6 +77,8 @@ module _ (plan : Plan) where
       keeper = refl;
       front = λ _. (refl, refl, (λ e. place_word q ∙ e));
       gate = λ _. (refl, refl, refl, (λ _. refl), (λ _. refl));
+      turns = λ _. (refl, refl);
+      given = λ _ _ e. e;
       putting = λ j c ne e le m. (le, subst (λ z. z ≤ c.place) (sym (place_word c.place)) m);
     }
 
@@ -108,6 +109,8 @@ module _ (plan : Plan) where
             claimed = g.claimed;
             stored = λ y is. let z = g.stored y is in (z.0, z.1, subst (λ m. y ≤ m) (sym slots) z.2);
           };
+      turns = knows.turns;
+      sizes = knows.sizes;
       gate = knows.gate;
       asked = knows.asked;
       room = knows.room;
@@ -128,6 +131,8 @@ module _ (plan : Plan) where
       behind = r.behind;
       ahead = subst (λ m. r.h.now.claimed ≤ r.h.now.freed + m) (sym slots) r.ahead;
       long = r.long;
+      turns = r.turns;
+      sizes = r.sizes;
       places = λ p a b. ⊎_elim
           (λ (t : (eqb p q ≡ true) × (p ≡ q)). subst (λ m. IsPlace plan.first s' r.h m) (sym t.1) front_place)
           (λ (t : (eqb p q ≡ false) × (p ≢ q)). other_place p t.1 a (subst (λ m. p < r.h.now.freed + m) slots b))
@@ -212,10 +217,12 @@ module _ (plan : Plan) where
         w,
         keeps,
         tt,
-        loaded plan s i (set s.views by w) (looked plan s r by v.0 w at refl refl refl refl (record {
+        kept_words plan s i (set s.views by w) (looked plan s r by v.0 w at refl refl refl refl (record {
           claims = record { mine = k.claims.mine; idle = k.claims.idle; putting = k.claims.putting };
           front = λ e. let y = k.front e in record { own = y.own; next = y.next; freed = y.freed; count = y.count; frames = y.frames; hand = y.hand };
           keeps = λ e. let g = k.keeps e in record { own = g.own; shut = g.shut; epoch = g.epoch; resizes = g.resizes; claimed = g.claimed; stored = g.stored };
+          turns = k.turns;
+          sizes = k.sizes;
           gate = k.gate;
           asked = k.asked;
           room = k.room;

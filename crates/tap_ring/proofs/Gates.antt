@@ -1,17 +1,20 @@
 -- The steps of the keeper: shut, reopen, the store of a capacity, and the addition to the number of resizes.
-use Rattle.std.proofs.Common.{◌≡◌, ◌≢◌, ℕ, ◌+◌, ◌^◌, ◌%◌, ◌≤◌, ◌<◌, [], set, Some, None, Option, Bool, true, false, refl, sym, ap, ◌∙◌, subst, le_refl, arith, append-nil, length-set, get_or-set_same, get_or-set_other}
+use Rattle.std.proofs.Common.{◌≡◌, ◌≢◌, ℕ, ◌+◌, ◌^◌, ◌%◌, ◌≤◌, ◌<◌, List, [], ◌∷◌, ◌++◌, set, Some, None, Option, Bool, true, false, refl, sym, ap, ◌∙◌, subst, le_refl, arith, append-nil, length-set, get_or-set_same, get_or-set_other}
 use Rattle.std.specs.Prelude.{slice_index, slice_set}
 use mathlib.Core.Option.{none, some}
 use lib.ListN.{get_elem?}
 use Rattle.atomic_table.specs.Table.{step, Allows, keeps}
 use Rattle.tap_ring.specs.declared.rule.Moment.{Moment}
+use Rattle.tap_ring.specs.declared.rule.Loaded.{Loaded}
 use Rattle.tap_ring.specs.declared.rule.View.{View}
 use Rattle.tap_ring.specs.declared.rule.Plan.{Plan}
 use Rattle.tap_ring.specs.GateWord.{gate_word}
 use Rattle.tap_ring.specs.Moments.{Fits, gate_of, capacity_at}
-use Rattle.tap_ring.specs.Standing.{RingState, Standing, slots_of, slot_at, word_at, Knows, Ring, times}
-use Rattle.tap_ring.specs.Steps.{Seated, seen_gate, Shuts, Reopens, Stores, Resizes, IsKept, seen_gate, shut_at, reopened_at, resized_at}
+use Rattle.tap_ring.specs.Turns.{EachGiven}
+use Rattle.tap_ring.specs.Standing.{RingState, Standing, slots_of, slot_at, word_at, CountsTurns, CountsSizes, Knows, Ring, times}
+use Rattle.tap_ring.specs.Steps.{Seated, seen_gate, Shuts, Reopens, Stores, Resizes, IsKept, shut_at, reopened_at, resized_at, with_turn, with_resize}
 use Rattle.tap_ring.proofs.Kit.{off, on, some_not_none, some_is, GoesOn, past_stays, total_set}
+use Rattle.tap_ring.proofs.Counts.{turns_reopen, sizes_same, sizes_more, given_more}
 use Rattle.tap_ring.proofs.Stays.{Apart, seats_set, place_stays}
 use Rattle.tap_ring.proofs.Loads.{new_now, still_set, hand_set}
 use Rattle.tap_ring.proofs.Claims.{caps_apart, place_words_apart}
@@ -20,22 +23,24 @@ module _ (plan : Plan) where
   -- ---- the gate word changes
 
   module _ (s : RingState) (r : Ring plan s) (by : ℕ) (v : View) (n : ℕ) (at : get_elem? s.views by ≡ some v) (keeps_is : v.keeps ≡ true)
-      (shut : Bool) (epoch resizes capacity : ℕ) (stored : Option ℕ)
+      (shut : Bool) (epoch resizes capacity : ℕ) (opened resized : List ℕ) (stored : Option ℕ)
       (later_epoch : r.h.now.epoch ≤ epoch) (later_resizes : r.h.now.resizes ≤ resizes) (few_epochs : epoch < 2 ^ 16) (few_resizes : resizes < 2 ^ 7)
       (stands : capacity_at s.words resizes ≡ capacity) (small : capacity ≤ slots_of s)
       (next : (c : ℕ) → stored ≡ Some c → (resizes + 1 < 2 ^ 7) × (capacity_at s.words (resizes + 1) ≡ c) × (c ≤ slots_of s))
+      (turns_are : CountsTurns plan.first r.h.now.claimed epoch r.h.log opened) (sizes_are : CountsSizes plan.capacity s.words resizes resized)
+      (given_still : (first : ℕ) (xs : List Loaded) → EachGiven first r.h.resized xs → EachGiven first resized xs)
       (word : n ≡ gate_of (record r.h.now { shut = shut; epoch = epoch; resizes = resizes; capacity = capacity })) where
     abbrev m : Moment
     m = record r.h.now { shut = shut; epoch = epoch; resizes = resizes; capacity = capacity }
 
     abbrev w : View
-    w = record (seen_gate m v) { stored = stored }
+    w = record (seen_gate m v) { opened = opened; resized = resized; stored = stored }
 
     abbrev s' : RingState
     s' = record { words = set s.words 0 n; homes = s.homes; views = set s.views by w }
 
     abbrev h' : Standing
-    h' = record r.h { now = m }
+    h' = record r.h { now = m; opened = opened; resized = resized }
 
     knows : Knows plan s r.h by v
     knows = r.seats by v at
@@ -65,6 +70,8 @@ module _ (plan : Plan) where
       keeper = refl;
       front = λ _. (refl, refl, (λ e. place_word r.h.lifted ∙ e));
       gate = λ ne. absurd (ne (sym own));
+      turns = λ ne. absurd (ne (sym own));
+      given = given_still;
       putting = λ j c ne e le z. (le, subst (λ y. y ≤ c.place) (sym (place_word c.place)) z);
     }
 
@@ -96,6 +103,8 @@ module _ (plan : Plan) where
         claimed = λ _. refl;
         stored = λ c is. let z = next c is in (z.0, caps_apart plan s.words 0 n (resizes + 1) (omega arith) ∙ z.1, z.2);
       };
+      turns = λ _. (refl, refl);
+      sizes = given_still plan.capacity v.loaded knows.sizes;
       gate = λ _. record {
         fits = fits_now;
         claimed = le_refl m.claimed;
@@ -125,6 +134,8 @@ module _ (plan : Plan) where
           behind = r.behind;
           ahead = r.ahead;
           long = r.long;
+          turns = turns_are;
+          sizes = sizes_same plan.capacity s.words s'.words resizes resized (λ k _. caps_apart plan s.words 0 n k (omega arith)) sizes_are;
           places = λ p a b. place_stays plan.first s s' r.h h' p [] (sym (append-nil r.h.log)) (place_word p) refl (λ t. t) (λ t. t) (λ t. t) (λ t. t)
               (still_set plan s by v w p at refl s' refl)
               (hand_set plan s r.h by v w p at refl s' h' refl refl refl)
@@ -138,6 +149,16 @@ module _ (plan : Plan) where
   kept_now s r by v live k keeps_is =
       let g = k.keeps keeps_is in
       record { is_new = new_now plan s r by v live k; shut = sym g.shut; epoch = sym g.epoch; resizes = sym g.resizes; claimed = λ e. sym (g.claimed e) }
+
+  -- what the rule says of reopenings and resizes, over the keeper's lists
+  kept_turns : (s : RingState) (r : Ring plan s) (by : ℕ) (v : View) → Knows plan s r.h by v → v.keeps ≡ true → CountsTurns plan.first r.h.now.claimed r.h.now.epoch r.h.log v.opened
+  kept_turns s r by v k keeps_is = subst (CountsTurns plan.first r.h.now.claimed r.h.now.epoch r.h.log) (sym (k.turns keeps_is).0) r.turns
+
+  kept_sizes : (s : RingState) (r : Ring plan s) (by : ℕ) (v : View) → Knows plan s r.h by v → v.keeps ≡ true → CountsSizes plan.capacity s.words r.h.now.resizes v.resized
+  kept_sizes s r by v k keeps_is = subst (CountsSizes plan.capacity s.words r.h.now.resizes) (sym (k.turns keeps_is).1) r.sizes
+
+  kept_given : (s : RingState) (r : Ring plan s) (by : ℕ) (v : View) → Knows plan s r.h by v → v.keeps ≡ true → (first : ℕ) (xs : List Loaded) → EachGiven first r.h.resized xs → EachGiven first v.resized xs
+  kept_given s r by v k keeps_is first xs e = subst (λ l. EachGiven first l xs) (sym (k.turns keeps_is).1) e
 
   -- adding the shut bit to the word of an open gate shuts it
   shut_word : (claimed epoch resizes : ℕ) (shut : Bool) → shut ≡ false → claimed < 2 ^ 40 → epoch < 2 ^ 16 → resizes < 2 ^ 7 → (gate_word claimed shut epoch resizes + 2 ^ 40) % 2 ^ 64 ≡ gate_word claimed true epoch resizes
@@ -163,7 +184,8 @@ module _ (plan : Plan) where
         seen_gate (shut_at now) v.0,
         keeps,
         tt,
-        gated_ring s r by v.0 ((slice_index s.words 0 + 2 ^ 40) % 2 ^ 64) at keeps_is true now.epoch now.resizes now.capacity v.0.stored (le_refl now.epoch) (le_refl now.resizes) r.fits.epoch r.fits.resizes r.capacity r.small g.stored is,
+        gated_ring s r by v.0 ((slice_index s.words 0 + 2 ^ 40) % 2 ^ 64) at keeps_is true now.epoch now.resizes now.capacity v.0.opened v.0.resized v.0.stored (le_refl now.epoch) (le_refl now.resizes) r.fits.epoch r.fits.resizes r.capacity r.small g.stored
+        (kept_turns s r by v.0 k keeps_is) (kept_sizes s r by v.0 k keeps_is) (kept_given s r by v.0 k keeps_is) is,
         (now, r.gate, kept_now s r by v.0 live k keeps_is, refl, refl),
       )
 
@@ -176,10 +198,11 @@ module _ (plan : Plan) where
       let epoch = g.epoch in
       let few_now : now.epoch + 1 < 2 ^ 16 = omega (arith, epoch, few) in
       let is : (slice_index s.words 0 + 2 ^ 40) % 2 ^ 64 ≡ gate_of (reopened_at now) = ap (λ m. (m + 2 ^ 40) % 2 ^ 64) r.gate ∙ reopen_word now.claimed now.epoch now.resizes now.shut (sym g.shut ∙ shut) r.fits.claimed few_now r.fits.resizes in (
-        seen_gate (reopened_at now) v.0,
+        with_turn now v.0,
         keeps,
         tt,
-        gated_ring s r by v.0 ((slice_index s.words 0 + 2 ^ 40) % 2 ^ 64) at keeps_is false (now.epoch + 1) now.resizes now.capacity v.0.stored (omega arith) (le_refl now.resizes) few_now r.fits.resizes r.capacity r.small g.stored is,
+        gated_ring s r by v.0 ((slice_index s.words 0 + 2 ^ 40) % 2 ^ 64) at keeps_is false (now.epoch + 1) now.resizes now.capacity (v.0.opened ++ now.claimed ∷ []) v.0.resized v.0.stored (omega arith) (le_refl now.resizes) few_now r.fits.resizes r.capacity r.small g.stored
+        (turns_reopen plan.first now.claimed now.epoch r.h.log v.0.opened r.long (kept_turns s r by v.0 k keeps_is)) (kept_sizes s r by v.0 k keeps_is) (kept_given s r by v.0 k keeps_is) is,
         (now, r.gate, kept_now s r by v.0 live k keeps_is, refl, refl),
       )
 
@@ -191,10 +214,12 @@ module _ (plan : Plan) where
       let now = r.h.now in
       let z = g.stored c stored in
       let is : (slice_index s.words 0 + 2 ^ 57) % 2 ^ 64 ≡ gate_of (resized_at c now) = ap (λ m. (m + 2 ^ 57) % 2 ^ 64) r.gate ∙ resize_word now.claimed now.epoch now.resizes now.shut r.fits.claimed r.fits.epoch z.0 in (
-        record (seen_gate (resized_at c now) v.0) { stored = None },
+        with_resize c now v.0,
         keeps,
         tt,
-        gated_ring s r by v.0 ((slice_index s.words 0 + 2 ^ 57) % 2 ^ 64) at keeps_is now.shut now.epoch (now.resizes + 1) c None (le_refl now.epoch) (omega arith) r.fits.epoch z.0 z.1 z.2 (λ d e. absurd (some_not_none d (sym e))) is,
+        gated_ring s r by v.0 ((slice_index s.words 0 + 2 ^ 57) % 2 ^ 64) at keeps_is now.shut now.epoch (now.resizes + 1) c v.0.opened (v.0.resized ++ c ∷ []) None (le_refl now.epoch) (omega arith) r.fits.epoch z.0 z.1 z.2 (λ d e. absurd (some_not_none d (sym e)))
+        (kept_turns s r by v.0 k keeps_is) (sizes_more plan.capacity s.words now.resizes c v.0.resized z.1 (kept_sizes s r by v.0 k keeps_is))
+        (λ first xs e. given_more first v.0.resized (c ∷ []) xs (kept_given s r by v.0 k keeps_is first xs e)) is,
         (now, r.gate, kept_now s r by v.0 live k keeps_is, (c, stored, refl), refl),
       )
 
@@ -242,6 +267,8 @@ module _ (plan : Plan) where
       keeper = refl;
       front = λ _. (refl, refl, (λ e. splace_word r.h.lifted ∙ e));
       gate = λ ne. absurd (ne (sym sown));
+      turns = λ ne. absurd (ne (sym sown));
+      given = λ _ _ e. e;
       putting = λ j d ne e le z. (le, subst (λ y. y ≤ d.place) (sym (splace_word d.place)) z);
     }
 
@@ -275,6 +302,8 @@ module _ (plan : Plan) where
             claimed = g.claimed;
             stored = λ d is. let same : c ≡ d = some_is c d is in (more, stored_here ∙ same, subst (λ z. z ≤ slots_of s) same fit);
           };
+      turns = sknows.turns;
+      sizes = sknows.sizes;
       gate = λ t. past_stays s.words ss.words r.h.now r.h.now v.gate sgoes (sknows.gate t);
       asked = λ t. past_stays s.words ss.words r.h.now r.h.now v.asked sgoes (sknows.asked t);
       room = λ t. past_stays s.words ss.words r.h.now r.h.now v.room sgoes (sknows.room t);
@@ -295,6 +324,8 @@ module _ (plan : Plan) where
       behind = r.behind;
       ahead = r.ahead;
       long = r.long;
+      turns = r.turns;
+      sizes = sizes_same plan.capacity s.words ss.words r.h.now.resizes r.h.resized sgoes.caps r.sizes;
       places = λ p a b. place_stays plan.first s ss r.h r.h p [] (sym (append-nil r.h.log)) (splace_word p) refl (λ t. t) (λ t. t) (λ t. t) (λ t. t)
           (still_set plan s by v sw p at refl ss refl)
           (hand_set plan s r.h by v sw p at refl ss r.h refl refl refl)

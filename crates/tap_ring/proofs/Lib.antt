@@ -1,4 +1,5 @@
 pub mod Kit
+pub mod Counts
 pub mod Stays
 pub mod Loads
 pub mod Claims
@@ -7,7 +8,9 @@ pub mod Fronts
 pub mod Lifting
 pub mod Freeing
 pub mod Gates
-pub mod Tokens
+pub mod Splits
+pub mod Joins
+pub mod Opening
 pub mod Causes
 pub mod Lines
 pub mod Ends

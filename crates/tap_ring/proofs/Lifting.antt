@@ -88,6 +88,8 @@ module _ (plan : Plan) where
       keeper = refl;
       front = λ ne. absurd (ne (sym lfront.own));
       gate = λ _. (refl, refl, refl, (λ _. refl), (λ _. refl));
+      turns = λ _. (refl, refl);
+      given = λ _ _ e. e;
       putting = λ j c ne e le m.
           let w = lword in
           let away : c.place ≢ lq = λ same. let u = subst (λ z. word_at s z ≤ z) same m in omega (arith, u, w) in
@@ -136,6 +138,8 @@ module _ (plan : Plan) where
             claimed = g.claimed;
             stored = λ y is. let z = g.stored y is in (z.0, z.1, subst (λ m. y ≤ m) (sym lslots) z.2);
           };
+      turns = lknows.turns;
+      sizes = lknows.sizes;
       gate = lknows.gate;
       asked = lknows.asked;
       room = lknows.room;
@@ -156,6 +160,8 @@ module _ (plan : Plan) where
       behind = let b = llow in omega (arith, b);
       ahead = subst (λ m. r.h.now.claimed ≤ r.h.now.freed + m) (sym lslots) r.ahead;
       long = r.long;
+      turns = r.turns;
+      sizes = r.sizes;
       places = λ p a b. ⊎_elim
           (λ (t : (eqb p lq ≡ true) × (p ≡ lq)). subst (λ m. IsPlace plan.first ls lh m) (sym t.1) lfront_place)
           (λ (t : (eqb p lq ≡ false) × (p ≢ lq)). lother_place p t.1 a (subst (λ m. p < r.h.now.freed + m) lslots b))

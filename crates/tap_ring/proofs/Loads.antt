@@ -1,5 +1,5 @@
 -- The steps that change no word and no slot: each keeps the rule, and tells what the table of steps says.
-use Rattle.std.proofs.Common.{◌≡◌, ◌≢◌, ℕ, ◌+◌, eqb, List, [], set, true, false, refl, sym, ap, ◌∙◌, subst, ⊎_elim, le_refl, arith, append-nil, ◌<◌}
+use Rattle.std.proofs.Common.{◌≡◌, ◌≢◌, ℕ, ◌+◌, eqb, List, [], ◌∷◌, set, Some, true, false, refl, sym, ap, ◌∙◌, subst, ⊎_elim, le_refl, arith, append-nil, ◌<◌}
 use Rattle.std.specs.Prelude.{slice_index, slice_set}
 use Rattle.std.proofs.lemmas.List.{set-get_or}
 use Rattle.std.proofs.lemmas.Bool.Decides.{eqb_tells}
@@ -10,9 +10,11 @@ use Rattle.atomic_table.proofs.Lists.{set_else}
 use Rattle.tap_ring.specs.declared.rule.View.{View}
 use Rattle.tap_ring.specs.declared.rule.Plan.{Plan}
 use Rattle.tap_ring.specs.Moments.{IsPast}
+use Rattle.tap_ring.specs.Turns.{IsGiven, loaded}
 use Rattle.tap_ring.specs.Standing.{RingState, Placing, Standing, IsEntered, IsInHand, EachClaim, Knows, Ring, times}
 use Rattle.tap_ring.specs.Steps.{Seated, IsNew, seen_gate, seen_capacity, seen_freed, LoadsGate, LoadsCapacity, LoadsFreed}
 use Rattle.tap_ring.proofs.Kit.{set_there, goes_same, past_later, entered_below, each_map, total_set}
+use Rattle.tap_ring.proofs.Counts.{given_append}
 use Rattle.tap_ring.proofs.Stays.{Apart, Still, seats_set, place_stays}
 
 module _ (plan : Plan) where
@@ -52,6 +54,8 @@ module _ (plan : Plan) where
     keeper = refl;
     front = λ _. (refl, refl, (λ e. e));
     gate = λ _. (refl, refl, refl, (λ _. refl), (λ _. refl));
+    turns = λ _. (refl, refl);
+    given = λ _ _ e. e;
     putting = λ j c ne e low word. (low, word);
   }
 
@@ -111,6 +115,8 @@ module _ (plan : Plan) where
         behind = r.behind;
         ahead = r.ahead;
         long = r.long;
+        turns = r.turns;
+        sizes = r.sizes;
         places = λ p a b. place_stays plan.first s s' r.h r.h p [] (sym (append-nil r.h.log)) refl refl (λ t. t) (λ t. t) (λ t. t) (λ t. t)
             (still_set s by v w p at same_putting s' refl) (hand_set s r.h by v w p at same_hand s' r.h refl refl refl) (r.places p a b);
         seats = seats_set plan s s' r r.h by w refl (apart_same s r.h by w) mine;
@@ -123,14 +129,16 @@ module _ (plan : Plan) where
       }
 
   -- the same, as the state after a load
-  pub loaded : (s : RingState) (i : ℕ) (views : List View) → Ring plan (record s { views = views }) → Ring plan (record { words = slice_set s.words i (slice_index s.words i); homes = s.homes; views = views })
-  loaded s i views r = subst (λ ws. Ring plan (record { words = ws; homes = s.homes; views = views })) (sym (set-get_or s.words i 0)) r
+  pub kept_words : (s : RingState) (i : ℕ) (views : List View) → Ring plan (record s { views = views }) → Ring plan (record { words = slice_set s.words i (slice_index s.words i); homes = s.homes; views = views })
+  kept_words s i views r = subst (λ ws. Ring plan (record { words = ws; homes = s.homes; views = views })) (sym (set-get_or s.words i 0)) r
 
   pub gate_knows : (s : RingState) (r : Ring plan s) (by : ℕ) (v : View) → Knows plan s r.h by v → Knows plan (record s { views = set s.views by (seen_gate r.h.now v) }) r.h by (seen_gate r.h.now v)
   gate_knows s r by v k = record {
     claims = record { mine = k.claims.mine; idle = k.claims.idle; putting = k.claims.putting };
     front = λ t. let f = k.front t in record { own = f.own; next = f.next; freed = f.freed; count = f.count; frames = f.frames; hand = f.hand };
     keeps = λ t. let g = k.keeps t in record { own = g.own; shut = refl; epoch = refl; resizes = refl; claimed = λ _. refl; stored = g.stored };
+    turns = k.turns;
+    sizes = k.sizes;
     gate = λ _. past_now s r;
     asked = k.asked;
     room = k.room;
@@ -143,9 +151,13 @@ module _ (plan : Plan) where
         w,
         keeps,
         tt,
-        loaded s 0 (set s.views by w) (looked s r by v.0 w at refl refl refl refl (gate_knows s r by v.0 k)),
+        kept_words s 0 (set s.views by w) (looked s r by v.0 w at refl refl refl refl (gate_knows s r by v.0 k)),
         (r.h.now, r.gate, new_now s r by v.0 live k, refl, refl),
       )
+
+  -- the capacity of the gate that a seat met is the one that was given under its number of resizes
+  given_gate : (s : RingState) (r : Ring plan s) (by : ℕ) (v : View) → v.spent ≡ false → Knows plan s r.h by v → IsGiven plan.capacity r.h.resized v.gate.resizes v.gate.capacity
+  given_gate s r by v live k = let p = k.gate live in r.sizes.given v.gate.resizes p.resizes ∙ ap (λ (n : ℕ). Some n) p.capacity
 
   pub loads_capacity : (slots by i : ℕ) (v : Seated) → v.0.spent ≡ false → i ≡ 2 + v.0.gate.resizes → Allows (Ring plan) slots by v i (λ n. n) (LoadsCapacity (step slots i 0 0 none) v)
   loads_capacity slots by i v live is s r len at fits =
@@ -154,10 +166,12 @@ module _ (plan : Plan) where
         w,
         keeps,
         tt,
-        loaded s i (set s.views by w) (looked s r by v.0 w at refl refl refl refl (record {
+        kept_words s i (set s.views by w) (looked s r by v.0 w at refl refl refl refl (record {
           claims = record { mine = k.claims.mine; idle = k.claims.idle; putting = k.claims.putting };
           front = λ t. let f = k.front t in record { own = f.own; next = f.next; freed = f.freed; count = f.count; frames = f.frames; hand = f.hand };
           keeps = λ t. let g = k.keeps t in record { own = g.own; shut = g.shut; epoch = g.epoch; resizes = g.resizes; claimed = g.claimed; stored = g.stored };
+          turns = k.turns;
+          sizes = given_append plan.capacity r.h.resized v.0.loaded (loaded v.0.gate.resizes v.0.gate.capacity ∷ []) k.sizes (given_gate s r by v.0 live k, tt);
           gate = k.gate;
           asked = k.gate;
           room = k.room;
@@ -172,10 +186,12 @@ module _ (plan : Plan) where
         w,
         keeps,
         tt,
-        loaded s 1 (set s.views by w) (looked s r by v.0 w at refl refl refl refl (record {
+        kept_words s 1 (set s.views by w) (looked s r by v.0 w at refl refl refl refl (record {
           claims = record { mine = k.claims.mine; idle = k.claims.idle; putting = k.claims.putting };
           front = λ t. let f = k.front t in record { own = f.own; next = f.next; freed = f.freed; count = f.count; frames = f.frames; hand = f.hand };
           keeps = λ t. let g = k.keeps t in record { own = g.own; shut = g.shut; epoch = g.epoch; resizes = g.resizes; claimed = g.claimed; stored = g.stored };
+          turns = k.turns;
+          sizes = k.sizes;
           gate = k.gate;
           asked = k.asked;
           room = λ _. past_now s r;

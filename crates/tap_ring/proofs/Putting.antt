@@ -13,6 +13,7 @@ use Rattle.tap_ring.specs.declared.rule.Plan.{Plan}
 use Rattle.tap_ring.specs.Standing.{RingState, Placing, slots_of, slot_at, word_at, IsEntered, IsPlace, Knows, Ring, times}
 use Rattle.tap_ring.specs.Steps.{Seated, Puts}
 use Rattle.tap_ring.proofs.Kit.{some_not_none, some_is, past_stays, entered_once, entered_below, total_set, slots_apart}
+use Rattle.tap_ring.proofs.Counts.{sizes_same}
 use Rattle.tap_ring.proofs.Stays.{Apart, seats_set, place_stays, word_same, home_same}
 use Rattle.tap_ring.proofs.Loads.{hand_set}
 
@@ -107,6 +108,8 @@ module _ (plan : Plan) where
       keeper = refl;
       front = λ _. (refl, refl, put_hand);
       gate = λ _. (refl, refl, refl, (λ _. refl), (λ le. put_low (2 + (r.h.now.resizes + 1)) (omega (arith, le))));
+      turns = λ _. (refl, refl);
+      given = λ _ _ e. e;
       putting = λ j d ne e low word.
           let apart : d.place ≢ c.place = λ same. ne (ap (λ (x : Placing). x.by) (entered_once plan.first r.h.log d.place (record { by = j; claim = d }) (record { by = by; claim = c }) e (subst (λ m. IsEntered plan.first r.h.log m (record { by = by; claim = c })) (sym same) mine_put.0))) in
           let below = entered_below plan.first r.h.log d.place (record { by = j; claim = d }) e in
@@ -139,6 +142,8 @@ module _ (plan : Plan) where
                 claimed = g.claimed;
                 stored = λ x is. let y = g.stored x is in let few = y.0 in (y.0, put_low (2 + (r.h.now.resizes + 1)) (omega (arith, few)) ∙ y.1, subst (λ m. x ≤ m) (sym put_slots) y.2);
               };
+          turns = k.turns;
+          sizes = k.sizes;
           gate = λ t. past_stays s.words put_state.words r.h.now r.h.now v.gate put_others.goes (k.gate t);
           asked = λ t. past_stays s.words put_state.words r.h.now r.h.now v.asked put_others.goes (k.asked t);
           room = λ t. past_stays s.words put_state.words r.h.now r.h.now v.room put_others.goes (k.room t);
@@ -159,6 +164,8 @@ module _ (plan : Plan) where
       behind = r.behind;
       ahead = subst (λ m. r.h.now.claimed ≤ r.h.now.freed + m) (sym put_slots) r.ahead;
       long = r.long;
+      turns = r.turns;
+      sizes = sizes_same plan.capacity s.words put_state.words r.h.now.resizes r.h.resized put_others.goes.caps r.sizes;
       places = λ p a b. ⊎_elim
           (λ (t : (eqb p c.place ≡ true) × (p ≡ c.place)). subst (λ m. IsPlace plan.first put_state r.h m) (sym t.1) put_place)
           (λ (t : (eqb p c.place ≡ false) × (p ≢ c.place)). put_rest p t.1 a (subst (λ m. p < r.h.now.freed + m) put_slots b))

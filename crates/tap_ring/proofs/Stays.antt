@@ -6,9 +6,11 @@ use mathlib.Core.Option.{some}
 use lib.ListN.{get_elem?}
 use Rattle.atomic_table.proofs.Lists.{at_set}
 use Rattle.tap_ring.specs.declared.rule.Claim.{Claim}
+use Rattle.tap_ring.specs.declared.rule.Loaded.{Loaded}
 use Rattle.tap_ring.specs.declared.rule.View.{View}
 use Rattle.tap_ring.specs.declared.rule.Plan.{Plan}
 use Rattle.tap_ring.specs.Moments.{capacity_at}
+use Rattle.tap_ring.specs.Turns.{EachGiven}
 use Rattle.tap_ring.specs.Standing.{RingState, Placing, Standing, slots_of, slot_at, word_at, home_at, IsEntered, IsReady, IsClaimed, IsInHand, IsPlace, frames_of, KnowsClaims, KnowsFront, KnowsGate, Knows, Ring}
 use Rattle.tap_ring.proofs.Kit.{take_more, GoesOn, past_stays, entered_longer, each_map}
 
@@ -23,6 +25,8 @@ pub record Apart (first : ℕ) (s s' : RingState) (h h' : Standing) (by : ℕ) :
   pub front : h.consumer ≢ by → (h'.now.freed ≡ h.now.freed) × (h'.lifted ≡ h.lifted) × (word_at s h.lifted ≡ h.lifted + 1 → word_at s' h.lifted ≡ h.lifted + 1)
   pub gate : h.keeper ≢ by → (h.now.shut ≡ h'.now.shut) × (h.now.epoch ≡ h'.now.epoch) × (h.now.resizes ≡ h'.now.resizes)
       × (h.now.shut ≡ true → h.now.claimed ≡ h'.now.claimed) × (h.now.resizes + 1 < 2 ^ 7 → capacity_at s'.words (h.now.resizes + 1) ≡ capacity_at s.words (h.now.resizes + 1))
+  pub turns : h.keeper ≢ by → (h.opened ≡ h'.opened) × (h.resized ≡ h'.resized)
+  pub given : (capacity : ℕ) (xs : List Loaded) → EachGiven capacity h.resized xs → EachGiven capacity h'.resized xs
   pub putting : (j : ℕ) (c : Claim) → j ≢ by → IsEntered first h.log c.place (record { by = j; claim = c }) → h.lifted ≤ c.place → word_at s c.place ≤ c.place
       → (h'.lifted ≤ c.place) × (word_at s' c.place ≤ c.place)
 
@@ -85,6 +89,8 @@ knows_apart plan s s' r h' by j v a ne k = record {
   claims = claims_apart plan s s' r.h h' by j v a ne k.claims;
   front = λ t. front_apart plan s s' r h' by j v a ne (k.front t);
   keeps = λ t. gate_apart plan s s' r.h h' by j v a ne (k.keeps t);
+  turns = λ t. let same = a.turns (λ e. ne ((k.keeps t).own ∙ e)) in ((k.turns t).0 ∙ same.0, (k.turns t).1 ∙ same.1);
+  sizes = a.given plan.capacity v.loaded k.sizes;
   gate = λ t. past_stays s.words s'.words r.h.now h'.now v.gate a.goes (k.gate t);
   asked = λ t. past_stays s.words s'.words r.h.now h'.now v.asked a.goes (k.asked t);
   room = λ t. past_stays s.words s'.words r.h.now h'.now v.room a.goes (k.room t);

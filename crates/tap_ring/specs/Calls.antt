@@ -1,5 +1,5 @@
 -- This project's own: what each call of a ring promises.
-use Rattle.std.specs.Prelude.{◌≡◌, ◌≢◌, ℕ, ◌+◌, ◌^◌, ◌<◌, ◌≤◌, ◌⊎◌, Bool, true, false, List, [], ◌∷◌, ◌++◌, length, slice_get, Some, None}
+use Rattle.std.specs.Prelude.{◌≡◌, ◌≢◌, ℕ, ◌+◌, ◌^◌, ◌<◌, ◌≤◌, ◌⊎◌, Bool, true, false, List, [], ◌∷◌, ◌++◌, length, slice_get, Contains, Some, None}
 use Rattle.atomic_table.specs.Seated.{TableId}
 use Rattle.tap_frame.specs.Frame.{FrameValue}
 use Rattle.tap_ring.specs.declared.rule.Moment.{Moment}
@@ -12,6 +12,7 @@ use Rattle.tap_ring.specs.declared.keeper.Reopen.{Reopen}
 use Rattle.tap_ring.specs.declared.keeper.Reopen.TheVariants.{NotDrained, EpochsSpent}
 use Rattle.tap_ring.specs.GateWord.{claimed_of, is_shut, epoch_of}
 use Rattle.tap_ring.specs.Moments.{IsLater, IsGone, IsOpen, IsSpent, IsFull, HasRoom, gate_of}
+use Rattle.tap_ring.specs.Turns.{turns_to, EachGiven, loaded}
 use Rattle.tap_ring.specs.Standing.{EachClaim, times, within}
 use Rattle.tap_ring.specs.Steps.{claim, seen_front, with_lifted}
 
@@ -58,6 +59,8 @@ pub record IsConsumer (v : View) : Type 0 where
 pub record IsKeeper (v : View) : Type 0 where
   pub keeps : v.keeps ≡ true
   pub resizes : v.gate.resizes < 2 ^ 7
+  pub opened : v.gate.epoch ≡ length v.opened
+  pub resized : v.gate.resizes ≡ length v.resized
   pub parts : v.parts ≡ 0
   pub mine : v.mine ≡ []
   pub putting : v.putting ≡ None
@@ -80,6 +83,7 @@ pub record Asked (epoch : ℕ) (v w : View) : Type 0 where
   pub later : IsLater v.gate w.asked
   pub mine : EachClaim (λ c. c.place < w.asked.claimed) v.mine
   pub order : IsLater w.asked w.room
+  pub loaded_is : w.loaded ≡ v.loaded ++ loaded w.asked.resizes w.asked.capacity ∷ []
   pub capacity_loads : w.capacity_loads ≡ v.capacity_loads + 1
   pub freed_loads : w.freed_loads ≡ v.freed_loads + 1
   pub gate_loads : w.gate_loads ≡ v.gate_loads + 2
@@ -96,6 +100,7 @@ pub record Placed (epoch : ℕ) (frame : FrameValue) (place : ℕ) (v w : View) 
   pub same_gate : gate_of w.gate ≡ gate_of w.asked
   pub order : IsLater w.room w.gate
   pub open_then : IsOpen epoch w.gate
+  pub same_capacity : w.gate.capacity ≡ w.asked.capacity
   pub room : HasRoom w.gate
   pub place_is : place ≡ w.gate.claimed
   pub bound : place + 1 < 2 ^ 40
@@ -108,6 +113,7 @@ pub record IsGoneThen (epoch found : ℕ) (shut : Bool) (resizes : ℕ) (v w : V
   pub found_is : found ≡ w.gate.epoch
   pub shut_is : shut ≡ w.gate.shut
   pub resizes_is : resizes ≡ w.gate.resizes
+  pub loaded_is : w.loaded ≡ v.loaded
   pub gate_loads : w.gate_loads ≡ v.gate_loads + 1
 
 -- else, its claim count was at its end
@@ -116,6 +122,7 @@ pub record IsSpentThen (epoch claimed resizes : ℕ) (v w : View) : Type 0 where
   pub spent : IsSpent w.gate
   pub claimed_is : claimed ≡ w.gate.claimed
   pub resizes_is : resizes ≡ w.gate.resizes
+  pub loaded_is : w.loaded ≡ v.loaded
   pub gate_loads : w.gate_loads ≡ v.gate_loads + 1
 
 -- else, there was no room by the numbers loaded, and at the load of the freed count the ring was full
@@ -198,7 +205,9 @@ pub record IsShutNow (claimed : ℕ) (v w : View) : Type 0 where
   pub shut : w.gate.shut ≡ true
   pub claimed_is : claimed ≡ w.gate.claimed
   pub epoch : w.gate.epoch ≡ v.gate.epoch
+  pub opened : w.opened ≡ v.opened
   pub resizes : w.gate.resizes ≡ v.gate.resizes
+  pub resized : w.resized ≡ v.resized
 
 -- the gate is open at the next epoch; no place was given out since the shut
 pub record IsReopened (epoch : ℕ) (v w : View) : Type 0 where
@@ -207,7 +216,9 @@ pub record IsReopened (epoch : ℕ) (v w : View) : Type 0 where
   pub shut : w.gate.shut ≡ false
   pub epoch_is : (epoch ≡ v.gate.epoch + 1) × (w.gate.epoch ≡ epoch)
   pub claimed : w.gate.claimed ≡ v.gate.claimed
+  pub opened : w.opened ≡ v.opened ++ v.gate.claimed ∷ []
   pub resizes : w.gate.resizes ≡ v.gate.resizes
+  pub resized : w.resized ≡ v.resized
 
 -- why the gate stays shut: the two counts that the tokens keep differ; or else there is no further epoch
 abbrev pub StaysShut : View → ℕ → Reopen → Type 0
@@ -222,10 +233,12 @@ pub record IsResized (capacity claimed : ℕ) (v w : View) : Type 0 where
   pub later : SawMore v w
   pub capacity_is : w.gate.capacity ≡ capacity
   pub resizes : w.gate.resizes ≡ v.gate.resizes + 1
+  pub resized : w.resized ≡ v.resized ++ capacity ∷ []
   pub claimed_is : claimed ≡ w.gate.claimed
   pub still : v.gate.shut ≡ true → w.gate.claimed ≡ v.gate.claimed
   pub shut : w.gate.shut ≡ v.gate.shut
   pub epoch : w.gate.epoch ≡ v.gate.epoch
+  pub opened : w.opened ≡ v.opened
 
 -- ---- the end
 
@@ -243,20 +256,39 @@ AllOfRing ring (t ∷ ts) = (t.ring ≡ ring) × AllOfRing ring ts
 abbrev pub StandsIn : ℕ → List FrameValue → Claim → Type 0
 StandsIn first line c = (k : ℕ) × (c.place ≡ first + k) × (slice_get line k ≡ Some c.frame)
 
--- each of these producers' claims stands in the line
-abbrev pub AllStand : ℕ → List FrameValue → List Token → Type 0
-AllStand first line [] = Unit {0}
-AllStand first line (t ∷ ts) = EachClaim (StandsIn first line) t.view.mine × AllStand first line ts
+-- each of these producers' claims has this
+abbrev pub AllClaims : (Claim → Type 0) → List Token → Type 0
+AllClaims P [] = Unit {0}
+AllClaims P (t ∷ ts) = EachClaim P t.view.mine × AllClaims P ts
+
+-- each capacity that these producers loaded was the ring's under its number of resizes
+abbrev pub AllGiven : ℕ → List ℕ → List Token → Type 0
+AllGiven first resized [] = Unit {0}
+AllGiven first resized (t ∷ ts) = EachGiven first resized t.view.loaded × AllGiven first resized ts
+
+-- all claims of these producers
+abbrev pub claims_of : List Token → List Claim
+claims_of [] = []
+claims_of (t ∷ ts) = t.view.mine ++ claims_of ts
+
+-- along the places epochs never fall: of two claims the one of the lower place has no higher epoch
+abbrev pub EpochsNeverFall : List Claim → Type 0
+EpochsNeverFall claims =
+    (c d : Claim) → Contains claims c → Contains claims d → c.place ≤ d.place → c.epoch ≤ d.epoch
 
 -- What was lifted and what is left are the frames of all places, in order; each place is one producer's claim, once,
--- with the frame that it put. No place was given out since the keeper shut the gate, if it is shut.
-pub record IsEnd (first : ℕ) (all : List Token) (c k : View) (claimed freed lifted : ℕ) (left : List FrameValue)
+-- with the frame that it put, under the epoch that the keeper's reopenings gave the place. What the producers loaded are
+-- capacities that the keeper gave. No place was given out since the keeper shut the gate, if it is shut.
+pub record IsEnd (plan : Plan) (all : List Token) (c k : View) (claimed freed lifted : ℕ) (left : List FrameValue)
     : Type 0 where
-  pub lifted_is : lifted ≡ first + length c.lifted
+  pub lifted_is : lifted ≡ plan.first + length c.lifted
   pub freed_is : freed ≡ c.freed
-  pub claimed_is : claimed ≡ first + length (c.lifted ++ left)
-  pub once : (p : ℕ) → claims_to p all ≡ within first claimed p
-  pub stand : AllStand first (c.lifted ++ left) all
-  pub order : (first ≤ freed) × (freed ≤ lifted) × (lifted ≤ claimed)
+  pub claimed_is : claimed ≡ plan.first + length (c.lifted ++ left)
+  pub once : (p : ℕ) → claims_to p all ≡ within plan.first claimed p
+  pub stand : AllClaims (StandsIn plan.first (c.lifted ++ left)) all
+  pub epochs : AllClaims (λ x. x.epoch ≡ turns_to x.place k.opened) all
+  pub rising : EpochsNeverFall (claims_of all)
+  pub capacities : AllGiven plan.capacity k.resized all
+  pub order : (plan.first ≤ freed) × (freed ≤ lifted) × (lifted ≤ claimed)
   pub later : k.gate.claimed ≤ claimed
   pub still : k.gate.shut ≡ true → claimed ≡ k.gate.claimed

@@ -1,5 +1,6 @@
 pub mod GateWord
 pub mod Moments
+pub mod Turns
 pub mod Standing
 pub mod Steps
 pub mod Calls

@@ -12,6 +12,7 @@ use Rattle.tap_ring.specs.declared.rule.Claim.{Claim}
 use Rattle.tap_ring.specs.declared.rule.View.{View}
 use Rattle.tap_ring.specs.declared.rule.Plan.{Plan}
 use Rattle.tap_ring.specs.Moments.{Fits, IsPast, gate_of, capacity_at}
+use Rattle.tap_ring.specs.Turns.{turns_to, IsGiven, EachGiven}
 
 -- a ring's words, slots and views as plain data
 abbrev pub RingState : Type 0
@@ -29,6 +30,9 @@ pub record Standing : Type 0 where
   pub lifted : ℕ
   -- each claim, in the order of places
   pub log : List Placing
+  -- the claim count at each reopening, and the capacity of each resize
+  pub opened : List ℕ
+  pub resized : List ℕ
   -- the seats of the consumer and of the keeper
   pub consumer : ℕ
   pub keeper : ℕ
@@ -120,14 +124,34 @@ module _ (plan : Plan) (s : RingState) (h : Standing) (j : ℕ) (v : View) where
     pub stored : (c : ℕ) → v.stored ≡ Some c
         → (h.now.resizes + 1 < 2 ^ 7) × (capacity_at s.words (h.now.resizes + 1) ≡ c) × (c ≤ slots_of s)
 
+  -- the keeper knows each reopening and each resize
+  abbrev pub KnowsTurns : Type 0
+  KnowsTurns = (v.opened ≡ h.opened) × (v.resized ≡ h.resized)
+
   -- what a seat knows
   pub record Knows : Type 0 where
     pub claims : KnowsClaims
     pub front : v.takes ≡ true → KnowsFront
     pub keeps : v.keeps ≡ true → KnowsGate
+    pub turns : v.keeps ≡ true → KnowsTurns
+    pub sizes : EachGiven plan.capacity h.resized v.loaded
     pub gate : v.spent ≡ false → IsPast s.words h.now v.gate
     pub asked : v.spent ≡ false → IsPast s.words h.now v.asked
     pub room : v.spent ≡ false → IsPast s.words h.now v.room
+
+-- ---- reopenings and resizes
+
+-- The epoch is the number of reopenings, and each claim has the one of its place: the number of reopenings at or before
+-- it. None is above the claim count.
+pub record CountsTurns (first claimed epoch : ℕ) (log : List Placing) (opened : List ℕ) : Type 0 where
+  pub count : epoch ≡ length opened
+  pub ahead : (p : ℕ) → claimed ≤ p → turns_to p opened ≡ epoch
+  pub claims : (p : ℕ) (x : Placing) → IsEntered first log p x → x.claim.epoch ≡ turns_to p opened
+
+-- the words of the capacities have the first one and those of the resizes, as many as there were
+pub record CountsSizes (first : ℕ) (words : List ℕ) (resizes : ℕ) (resized : List ℕ) : Type 0 where
+  pub count : resizes ≡ length resized
+  pub given : (n : ℕ) → n ≤ resizes → IsGiven first resized n (capacity_at words n)
 
 -- ---- the rule
 
@@ -163,6 +187,9 @@ pub record Ring (plan : Plan) (s : RingState) : Type 0 where
   pub long : h.now.claimed ≡ plan.first + length h.log
   -- the places from the freed count on, as many as there are slots
   pub places : (p : ℕ) → h.now.freed ≤ p → p < h.now.freed + slots_of s → IsPlace plan.first s h p
+  -- reopenings and resizes
+  pub turns : CountsTurns plan.first h.now.claimed h.now.epoch h.log h.opened
+  pub sizes : CountsSizes plan.capacity s.words h.now.resizes h.resized
   -- the seats
   pub seats : (j : ℕ) (v : View) → get_elem? s.views j ≡ some v → Knows plan s h j v
   pub parts : total (λ v. v.parts) s.views ≡ plan.producers
@@ -187,12 +214,15 @@ new_producers plan parts = record {
   in_hand = None;
   freed = plan.first;
   keeps = false;
+  opened = [];
+  resized = [];
   stored = None;
   spent = false;
   gate = opening_moment plan.first plan.capacity;
   gate_loads = 0;
   asked = opening_moment plan.first plan.capacity;
   capacity_loads = 0;
+  loaded = [];
   room = opening_moment plan.first plan.capacity;
   freed_loads = 0;
   front = 0;

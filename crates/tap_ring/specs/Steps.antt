@@ -8,6 +8,7 @@ use Rattle.tap_ring.specs.declared.rule.Claim.{Claim}
 use Rattle.tap_ring.specs.declared.rule.View.{View}
 use Rattle.tap_ring.specs.declared.rule.Plan.{Plan}
 use Rattle.tap_ring.specs.Moments.{Fits, IsLater, HasRoom, gate_of}
+use Rattle.tap_ring.specs.Turns.{loaded}
 use Rattle.tap_ring.specs.Standing.{EachClaim, new_producers}
 
 -- a seat's view, and the slots that it has
@@ -31,7 +32,11 @@ abbrev pub seen_gate : Moment → View → View
 seen_gate m v = record v { gate = m; gate_loads = v.gate_loads + 1 }
 
 abbrev pub seen_capacity : View → View
-seen_capacity v = record v { asked = v.gate; capacity_loads = v.capacity_loads + 1 }
+seen_capacity v = record v {
+  asked = v.gate;
+  capacity_loads = v.capacity_loads + 1;
+  loaded = v.loaded ++ loaded v.gate.resizes v.gate.capacity ∷ [];
+}
 
 abbrev pub seen_freed : Moment → View → View
 seen_freed m v = record v { room = m; freed_loads = v.freed_loads + 1 }
@@ -118,6 +123,17 @@ reopened_at m = record m { shut = false; epoch = m.epoch + 1 }
 abbrev pub resized_at : ℕ → Moment → Moment
 resized_at capacity m = record m { resizes = m.resizes + 1; capacity = capacity }
 
+-- the keeper's list of reopenings has one more
+abbrev pub with_turn : Moment → View → View
+with_turn m v = record (seen_gate (reopened_at m) v) { opened = v.opened ++ m.claimed ∷ [] }
+
+-- its list of resizes has one more
+abbrev pub with_resize : ℕ → Moment → View → View
+with_resize capacity m v = record (seen_gate (resized_at capacity m) v) {
+  resized = v.resized ++ capacity ∷ [];
+  stored = None;
+}
+
 -- kind 9, shut: the claim count
 abbrev pub Shuts : RingStep → Seated → ℕ → Seated → Type 0
 Shuts st v found w =
@@ -126,7 +142,7 @@ Shuts st v found w =
 -- kind 10, reopen: the new epoch
 abbrev pub Reopens : RingStep → Seated → ℕ → Seated → Type 0
 Reopens st v found w =
-    (m : Moment) × (found ≡ gate_of m) × IsKept v.0 m × (w.0 ≡ seen_gate (reopened_at m) v.0) × (w.1 ≡ v.1)
+    (m : Moment) × (found ≡ gate_of m) × IsKept v.0 m × (w.0 ≡ with_turn m v.0) × (w.1 ≡ v.1)
 
 -- kind 11, store the capacity of the next number
 abbrev pub Stores : RingStep → Seated → ℕ → Seated → Type 0
@@ -136,7 +152,7 @@ Stores st v found w = (w.0 ≡ record v.0 { stored = Some st.first }) × (w.1 �
 abbrev pub Resizes : RingStep → Seated → ℕ → Seated → Type 0
 Resizes st v found w =
     (m : Moment) × (found ≡ gate_of m) × IsKept v.0 m
-    × ((c : ℕ) × (v.0.stored ≡ Some c) × (w.0 ≡ record (seen_gate (resized_at c m) v.0) { stored = None }))
+    × ((c : ℕ) × (v.0.stored ≡ Some c) × (w.0 ≡ with_resize c m v.0))
     × (w.1 ≡ v.1)
 
 -- ---- kind 7, split, and kind 8, join
@@ -155,13 +171,23 @@ without_consumer v = record v { takes = false }
 abbrev pub the_consumer : View → View
 the_consumer v = record v { parts = 0; keeps = false }
 
--- a producer's claims come to another seat
+-- a producer's claims and loads come to another seat
 abbrev pub with_producer : View → View → View
-with_producer v w = record v { parts = v.parts + w.parts; mine = v.mine ++ w.mine }
+with_producer v w = record v {
+  parts = v.parts + w.parts;
+  mine = v.mine ++ w.mine;
+  loaded = v.loaded ++ w.loaded;
+}
 
 -- the keeper's part comes to another seat
 abbrev pub with_keeper : View → View → View
-with_keeper v w = record v { keeps = true; stored = None; gate = w.gate }
+with_keeper v w = record v {
+  keeps = true;
+  opened = w.opened;
+  resized = w.resized;
+  stored = None;
+  gate = w.gate;
+}
 
 abbrev pub no_plan : Plan
 no_plan = record { first = 0; capacity = 0; producers = 0 }

@@ -34,4 +34,4 @@ pub use keeper::{Keeper, Reopen, ResizesSpent};
 pub use making::Parts;
 pub use producer::{Producer, PutBack, Why};
 pub use ring::TapRing;
-pub use rule::{Claim, Moment, Plan, View};
+pub use rule::{Claim, Loaded, Moment, Plan, View};

@@ -29,6 +29,12 @@ pub struct Claim {
     pub frame: Frame,
 }
 
+/// A capacity that a producer loaded, with the number of resizes that it is of.
+pub struct Loaded {
+    pub resizes: u8,
+    pub capacity: u16,
+}
+
 /// What a token knows. No value of it is made.
 pub struct View {
     /// How many of the ring's producers it is.
@@ -49,6 +55,10 @@ pub struct View {
     pub freed: u64,
     /// Whether it is the keeper.
     pub keeps: bool,
+    /// Of the keeper, the claim count at each reopening, in order.
+    pub opened: LinkedList<u64>,
+    /// Of the keeper, the capacity that each resize was given, in order.
+    pub resized: LinkedList<u16>,
     /// The capacity that it stored for the next number of resizes.
     pub stored: Option<u16>,
     /// Whether another token took over what it knew.
@@ -61,6 +71,8 @@ pub struct View {
     pub asked: Moment,
     /// How often it loaded a capacity.
     pub capacity_loads: u64,
+    /// The capacities that it loaded, in order.
+    pub loaded: LinkedList<Loaded>,
     /// What the ring was when it loaded the freed count last.
     pub room: Moment,
     /// How often it loaded the freed count.

@@ -1,6 +1,6 @@
 use Rattle.std.proofs.Common.{ap, ◌∙◌}
 use Rattle.tap_ring.specs.Calls.{Token}
-use Rattle.tap_ring.proofs.Tokens.{joins_producer}
+use Rattle.tap_ring.proofs.Joins.{joins_producer}
 use Rattle.tap_ring.proofs.ending.join.Goals as goal
 
 pub join_seat-requires : goal.join_seat-requires

@@ -1,6 +1,6 @@
 use Rattle.std.proofs.Common.{ap, ◌∙◌}
 use Rattle.tap_ring.specs.Calls.{Token}
-use Rattle.tap_ring.proofs.Tokens.{joins_keeper}
+use Rattle.tap_ring.proofs.Joins.{joins_keeper}
 use Rattle.tap_ring.proofs.ending.join_keeper.Goals as goal
 
 pub join_seat-requires : goal.join_seat-requires

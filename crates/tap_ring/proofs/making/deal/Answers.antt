@@ -1,6 +1,6 @@
 use Rattle.std.proofs.Common.{arith, ap, ◌∙◌}
 use Rattle.tap_ring.specs.Steps.{Seated}
-use Rattle.tap_ring.proofs.Tokens.{splits_producer}
+use Rattle.tap_ring.proofs.Splits.{splits_producer}
 use Rattle.tap_ring.proofs.making.deal.Goals as goal
 
 pub split_seat-one-requires : goal.split_seat-one-requires

@@ -2,6 +2,7 @@ use Rattle.std.proofs.Common.{arith, [], ◌≡◌, ◌%◌, ℕ, List, length, 
 use Rattle.std.specs.Mem.Slots.{slots_items, slots_counts}
 use Rattle.tap_frame.specs.Frame.{FrameValue}
 use Rattle.tap_ring.specs.declared.rule.View.{View}
+use Rattle.tap_ring.specs.declared.rule.Plan.{Plan}
 use Rattle.tap_ring.specs.GateWord.{claimed_of}
 use Rattle.tap_ring.specs.Calls.{Token, RingValue, IsEnd}
 use Rattle.tap_ring.specs.Steps.{Seated}
@@ -31,5 +32,5 @@ returns c =
     let end = ended plan (slots_items closed.words) (slots_items closed.slots) c.gather.new.seat.id c.from.result c.claimed_of-claimed.result v theirs c.gather.new.seat.me.0 c.args.all.items
     c.close_with-closed.ensures.values.2 long (ap (λ (m : Seated). m.0) g) (omega (arith, more, none, producers, named, joined)) k.0.takes k.0.in_hand k.0.putting k.0.mine k.0.spent
     (c.claimed_of-claimed.ensures ∙ ap claimed_of (sym word)) in
-    subst (λ (x : ℕ × View × ℕ × ℕ × List FrameValue). IsEnd x.0 c.args.all.items x.1 theirs c.claimed_of-claimed.result x.2 x.3 x.4)
-    (λ i. (ap (λ p. p.first) plan_is i, view_is i, sym k.3 i, sym k.2 i, (ap (λ n. present (slots_from (n % c.from.result) (slots_items closed.slots))) (sym k.3) ∙ sym c.empty_from-left.ensures) i)) end
+    subst (λ (x : Plan × View × ℕ × ℕ × List FrameValue). IsEnd x.0 c.args.all.items x.1 theirs c.claimed_of-claimed.result x.2 x.3 x.4)
+    (λ i. (plan_is i, view_is i, sym k.3 i, sym k.2 i, (ap (λ n. present (slots_from (n % c.from.result) (slots_items closed.slots))) (sym k.3) ∙ sym c.empty_from-left.ensures) i)) end

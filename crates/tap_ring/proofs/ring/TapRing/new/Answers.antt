@@ -3,7 +3,8 @@ use Rattle.atomic_table.specs.Table.{opening}
 use Rattle.tap_ring.specs.declared.rule.Plan.{Plan}
 use Rattle.tap_ring.specs.Standing.{Ring, maker}
 use Rattle.tap_ring.specs.Steps.{Seated}
-use Rattle.tap_ring.proofs.Tokens.{opens_words, splits_consumer}
+use Rattle.tap_ring.proofs.Splits.{splits_consumer}
+use Rattle.tap_ring.proofs.Opening.{opens_words}
 use Rattle.tap_ring.proofs.ring.TapRing.new.Goals as goal
 
 pub vacant-requires : goal.vacant-requires
