@@ -1,7 +1,10 @@
-//! A ring that four threads fill, while one takes, shuts, reopens and resizes.
+//! A ring that four threads fill, while one takes, and one shuts, reopens and resizes.
 
 ghost use Rattle.std.specs.Prelude.{◌≡◌, ◌<◌, ◌≤◌, [], ◌∷◌, vec_capacity, true};
 
+mod line;
+
+use self::line::tend;
 use super::frame_of;
 use crate::{Consumer, Ended, Keeper, Parts, Producer, PutBack, TapRing, Why};
 use std::alloc::Global;
@@ -12,10 +15,8 @@ use std::thread;
 use std::thread::{Threads, join};
 use tap_frame::{Frame, Name};
 
-// How many frames each of four threads puts, and how many of all the consumer takes.
+// How many frames each of four threads puts.
 const EACH: u32 = 10_000;
-
-const TAKEN: usize = 39_500;
 
 // Puts a frame, again and again until it is placed. Follows the gate's epoch.
 fn place<R: Wait + Abort>(
@@ -70,59 +71,6 @@ fn produce<R: Wait + Abort>(
     (p, places)
 }
 
-// Takes frames until so many were taken.
-fn take_until<R: Wait + Abort>(
-    rt: &R,
-    ring: &TapRing,
-    c: &mut Consumer,
-    line: &mut Vec<Name>,
-    count: usize,
-)
-    requires { c.old.ring ≡ ring.now.ring }
-    ensures { c.new.ring ≡ c.old.ring }
-{
-    for _ in rt.forever() {
-        if line.len() >= count {
-            return;
-        }
-        match ring.take(c) {
-            Ok(frame) => line.push(frame.end()).expect(rt, "memory"),
-            Err(_) => thread::yield_now(),
-        }
-    }
-    unreachable!()
-}
-
-// Takes frames; a hundred times it shuts the gate, takes what is there, reopens it and resizes.
-fn consume<R: Wait + Abort>(
-    rt: &R,
-    alloc: Global,
-    ring: &TapRing,
-    mut c: Consumer,
-    mut k: Keeper,
-) -> (Consumer, Keeper, Vec<Name>)
-    requires { (c.ring ≡ ring.now.ring) × (k.ring ≡ ring.now.ring) × (k.view.gate.shut ≡ true)
-        × (ring.now.most ≡ 1024) }
-    ensures { (result.0.ring ≡ ring.now.ring) × (result.1.ring ≡ ring.now.ring) }
-{
-    let mut line = Vec::new(alloc);
-    for round in 0..100 {
-        if ring.reopen(&mut k, &c).is_err() {
-            panic!(rt; "not drained")
-        }
-        let capacity = if round % 2 == 0 { 16 } else { 1024 };
-        ring.resize(&mut k, capacity).expect(rt, "a resize");
-        take_until(rt, ring, &mut c, &mut line, (round + 1) * 390);
-        let claimed = ring.shut(&mut k);
-        take_until(rt, ring, &mut c, &mut line, claimed as usize);
-    }
-    if ring.reopen(&mut k, &c).is_err() {
-        panic!(rt; "not drained")
-    }
-    take_until(rt, ring, &mut c, &mut line, TAKEN);
-    (c, k, line)
-}
-
 // What two producers did.
 #[derive(Drop)]
 struct Two {
@@ -155,7 +103,7 @@ fn produce_two<R: Threads + Wait + Abort + Sync>(
     Two { first, second }
 }
 
-// What four producers and the consumer did.
+// What four producers, the consumer and the keeper did.
 #[derive(Drop)]
 struct All {
     low: Two,
@@ -188,7 +136,7 @@ fn run_all<R: Threads + Wait + Abort + Sync>(
             requires { (c.ring ≡ ring.now.ring) × (k.ring ≡ ring.now.ring) × (k.view.gate.shut ≡ true)
                 × (ring.now.most ≡ 1024) }
             ensures { (result.0.ring ≡ ring.entry.now.ring) × (result.1.ring ≡ ring.entry.now.ring) }
-        { consume(rt, alloc, ring, c, k) },
+        { tend(rt, alloc, ring, c, k) },
         move || -> (Two, Two)
             requires { (a.ring ≡ ring.now.ring) × (b.ring ≡ ring.now.ring) × (d.ring ≡ ring.now.ring)
                 × (e.ring ≡ ring.now.ring) }
@@ -284,7 +232,7 @@ fn together(
 }
 
 #[test]
-fn four_threads_put_and_one_takes(rt: HostRuntime) -> Result<(), Fail> {
+fn four_threads_put_one_takes_and_one_keeps(rt: HostRuntime) -> Result<(), Fail> {
     let a = rt.alloc();
     let all = Vec::with_capacity(a, 4)?;
     let Parts {
