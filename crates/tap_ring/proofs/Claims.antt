@@ -16,9 +16,9 @@ use Rattle.tap_ring.specs.declared.rule.Claim.{Claim}
 use Rattle.tap_ring.specs.declared.rule.View.{View}
 use Rattle.tap_ring.specs.declared.rule.Plan.{Plan}
 use Rattle.tap_ring.specs.Moments.{HasRoom, gate_of, capacity_at}
-use Rattle.tap_ring.specs.Standing.{RingState, Placing, Standing, slots_of, slot_at, word_at, IsEntered, IsPlace, EachClaim, Knows, Ring, times}
+use Rattle.tap_ring.specs.Standing.{RingState, Placing, Standing, slots_of, slot_at, word_at, IsEntered, IsPlace, Knows, Ring, times}
 use Rattle.tap_ring.specs.Steps.{Seated, claim, with_claim, seen_gate, Exchanges}
-use Rattle.tap_ring.proofs.Kit.{off, some_not_none, some_is, set_there, parts_equal, past_stays, entered_longer, entered_below, each_append, each_map, total_set, times-append, within_more, slots_apart}
+use Rattle.tap_ring.proofs.Kit.{off, some_not_none, some_is, set_there, parts_equal, past_stays, entered_longer, each_append, each_map, total_set, times-append, within_more, slots_apart}
 use Rattle.tap_ring.proofs.Counts.{turns_claim, sizes_same}
 use Rattle.tap_ring.proofs.Stays.{Apart, seats_set, place_stays, word_same, home_same, frames_front}
 use Rattle.tap_ring.proofs.Loads.{past_now, new_now, hand_set, looked, gate_knows}

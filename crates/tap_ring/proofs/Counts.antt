@@ -1,5 +1,5 @@
 -- Reopenings and resizes: what one more of them makes of the lists, and what other steps leave of them.
-use Rattle.std.proofs.Common.{◌≡◌, ◌≢◌, ◌⊎◌, ℕ, zero, suc, ◌+◌, ◌≤◌, ◌<◌, eqb, ltb, List, [], ◌∷◌, ◌++◌, length, Some, Bool, true, false, refl, sym, ap, ◌∙◌, subst, ⊎_elim, le_refl, arith, length-append}
+use Rattle.std.proofs.Common.{◌≡◌, ◌≢◌, ℕ, zero, suc, ◌+◌, ◌≤◌, ◌<◌, eqb, ltb, List, [], ◌∷◌, ◌++◌, length, Some, Bool, true, false, refl, sym, ap, ◌∙◌, ⊎_elim, le_refl, arith, length-append}
 use Rattle.std.specs.Prelude.{slice_get}
 use Rattle.std.proofs.lemmas.Bool.Decides.{eqb_tells}
 use Rattle.std.proofs.lemmas.Bool.{ltb-true, ltb-false, lt-ltb, le-ltb}
@@ -7,7 +7,7 @@ use mathlib.Core.Option.{some}
 use lib.ListN.{get_elem?}
 use Rattle.tap_ring.specs.declared.rule.Loaded.{Loaded}
 use Rattle.tap_ring.specs.Moments.{capacity_at}
-use Rattle.tap_ring.specs.Turns.{turns_to, IsGiven, EachGiven}
+use Rattle.tap_ring.specs.Turns.{turns_to, EachGiven}
 use Rattle.tap_ring.specs.Standing.{Placing, CountsTurns, CountsSizes}
 use Rattle.tap_ring.proofs.Kit.{at_snoc_where, entered_below}
 

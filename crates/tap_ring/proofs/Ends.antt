@@ -252,9 +252,9 @@ ended plan words slots id n claimed v k w all final count is parts takes_is empt
     let opened_k : r.h.opened ≡ k.opened = sym lists.0 ∙ ap (λ (x : View). x.opened) is ∙ q.3 in
     let resized_k : r.h.resized ≡ k.resized = sym lists.1 ∙ ap (λ (x : View). x.resized) is ∙ q.4 in
     let epochs : AllClaims (λ x. x.epoch ≡ turns_to x.place k.opened) all =
-        gathered_claims (λ x. x.epoch ≡ turns_to x.place k.opened) (with_keeper v k) all
-        (subst (λ (x : List ℕ × View). EachClaim (λ c. c.epoch ≡ turns_to c.place x.0) x.1.mine) (λ i. (opened_k i, is i))
-        (epochs_mine plan s r id w at takes_w empty_w idle_w parts)) in
+    gathered_claims (λ x. x.epoch ≡ turns_to x.place k.opened) (with_keeper v k) all
+    (subst (λ (x : List ℕ × View). EachClaim (λ c. c.epoch ≡ turns_to c.place x.0) x.1.mine) (λ i. (opened_k i, is i))
+    (epochs_mine plan s r id w at takes_w empty_w idle_w parts)) in
     let counts = counts_mine plan s r id w at takes_w empty_w idle_w parts slots n final.3 count final.4 in
     let stand = stand_mine plan s r id w at takes_w empty_w idle_w parts slots n final.3 count final.4 in
     let line : w.lifted ++ present (slots_from (w.freed % n) slots) ≡ v.lifted ++ present (slots_from (v.freed % n) slots) = (λ i. lifted_w i ++ present (slots_from (freed_w i % n) slots)) in
@@ -278,6 +278,10 @@ ended plan words slots id n claimed v k w all final count is parts takes_is empt
       capacities = gathered_given plan.capacity k.resized (with_keeper v k) all
           (subst (λ (x : List ℕ × View). EachGiven plan.capacity x.0 x.1.loaded) (λ i. (resized_k i, is i)) (r.seats id w at).sizes);
       order = (omega (arith, c2, freed_w), omega (arith, c3, freed_w, next_w), omega (arith, c4, next_w, now));
+      turns = (
+        ap (λ (m : Moment). m.epoch) (sym gate_w) ∙ kept.epoch ∙ r.turns.count ∙ ap length opened_k,
+        ap (λ (m : Moment). m.resizes) (sym gate_w) ∙ kept.resizes ∙ r.sizes.count ∙ ap length resized_k,
+      );
       later = subst (λ (m : Moment). m.claimed ≤ claimed) gate_w (subst (λ m. w.gate.claimed ≤ m) (sym now) ((r.seats id w at).gate live_w).claimed);
       still = λ e. now ∙ sym (kept.claimed (ap (λ (m : Moment). m.shut) gate_w ∙ e)) ∙ ap (λ (m : Moment). m.claimed) gate_w;
     }

@@ -185,7 +185,7 @@ module _ (plan : Plan) where
         keeps,
         tt,
         gated_ring s r by v.0 ((slice_index s.words 0 + 2 ^ 40) % 2 ^ 64) at keeps_is true now.epoch now.resizes now.capacity v.0.opened v.0.resized v.0.stored (le_refl now.epoch) (le_refl now.resizes) r.fits.epoch r.fits.resizes r.capacity r.small g.stored
-        (kept_turns s r by v.0 k keeps_is) (kept_sizes s r by v.0 k keeps_is) (kept_given s r by v.0 k keeps_is) is,
+            (kept_turns s r by v.0 k keeps_is) (kept_sizes s r by v.0 k keeps_is) (kept_given s r by v.0 k keeps_is) is,
         (now, r.gate, kept_now s r by v.0 live k keeps_is, refl, refl),
       )
 
@@ -202,7 +202,7 @@ module _ (plan : Plan) where
         keeps,
         tt,
         gated_ring s r by v.0 ((slice_index s.words 0 + 2 ^ 40) % 2 ^ 64) at keeps_is false (now.epoch + 1) now.resizes now.capacity (v.0.opened ++ now.claimed ∷ []) v.0.resized v.0.stored (omega arith) (le_refl now.resizes) few_now r.fits.resizes r.capacity r.small g.stored
-        (turns_reopen plan.first now.claimed now.epoch r.h.log v.0.opened r.long (kept_turns s r by v.0 k keeps_is)) (kept_sizes s r by v.0 k keeps_is) (kept_given s r by v.0 k keeps_is) is,
+            (turns_reopen plan.first now.claimed now.epoch r.h.log v.0.opened r.long (kept_turns s r by v.0 k keeps_is)) (kept_sizes s r by v.0 k keeps_is) (kept_given s r by v.0 k keeps_is) is,
         (now, r.gate, kept_now s r by v.0 live k keeps_is, refl, refl),
       )
 
@@ -218,8 +218,8 @@ module _ (plan : Plan) where
         keeps,
         tt,
         gated_ring s r by v.0 ((slice_index s.words 0 + 2 ^ 57) % 2 ^ 64) at keeps_is now.shut now.epoch (now.resizes + 1) c v.0.opened (v.0.resized ++ c ∷ []) None (le_refl now.epoch) (omega arith) r.fits.epoch z.0 z.1 z.2 (λ d e. absurd (some_not_none d (sym e)))
-        (kept_turns s r by v.0 k keeps_is) (sizes_more plan.capacity s.words now.resizes c v.0.resized z.1 (kept_sizes s r by v.0 k keeps_is))
-        (λ first xs e. given_more first v.0.resized (c ∷ []) xs (kept_given s r by v.0 k keeps_is first xs e)) is,
+            (kept_turns s r by v.0 k keeps_is) (sizes_more plan.capacity s.words now.resizes c v.0.resized z.1 (kept_sizes s r by v.0 k keeps_is))
+            (λ first xs e. given_more first v.0.resized (c ∷ []) xs (kept_given s r by v.0 k keeps_is first xs e)) is,
         (now, r.gate, kept_now s r by v.0 live k keeps_is, (c, stored, refl), refl),
       )
 

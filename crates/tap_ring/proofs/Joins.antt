@@ -1,5 +1,5 @@
 -- How tokens come to one seat again.
-use Rattle.std.proofs.Common.{◌≡◌, ◌≢◌, ℕ, ◌+◌, ◌≤◌, eqb, List, [], ◌++◌, set, None, true, false, refl, sym, ap, ◌∙◌, subst, ⊎_elim, arith, append-nil}
+use Rattle.std.proofs.Common.{◌≡◌, ◌≢◌, ℕ, ◌+◌, eqb, List, [], ◌++◌, set, None, true, false, refl, sym, ap, ◌∙◌, subst, ⊎_elim, arith, append-nil}
 use Rattle.std.proofs.lemmas.Bool.Decides.{eqb_tells}
 use mathlib.Core.Option.{some, some-injective}
 use lib.ListN.{get_elem?}
@@ -9,9 +9,10 @@ use Rattle.tap_ring.specs.declared.rule.View.{View}
 use Rattle.tap_ring.specs.declared.rule.Plan.{Plan}
 use Rattle.tap_ring.specs.Standing.{RingState, Placing, Standing, IsEntered, Knows, Ring, times}
 use Rattle.tap_ring.specs.Steps.{with_producer, with_keeper, spent_view}
-use Rattle.tap_ring.proofs.Kit.{off, on, some_not_none, goes_same, each_append, total_set, times-append}
+use Rattle.tap_ring.proofs.Kit.{off, on, some_not_none, each_append, total_set, times-append}
 use Rattle.tap_ring.proofs.Counts.{given_append}
-use Rattle.tap_ring.proofs.Stays.{Apart, Still, knows_apart, place_stays}
+use Rattle.tap_ring.proofs.Stays.{Still, knows_apart, place_stays}
+use Rattle.tap_ring.proofs.Loads.{apart_same}
 use Rattle.tap_ring.proofs.Splits.{no_claims}
 
 module _ (plan : Plan) where
@@ -106,19 +107,6 @@ module _ (plan : Plan) where
       let k = r.seats by v at in
       let theirs = r.seats other u (sym (set_else s.views by other w apart) ∙ there) in
       let f = k.front takes_is in
-      let others : Apart plan.first s s' r.h r.h by = record {
-        goes = goes_same s.words r.h.now;
-        more = [];
-        log = sym (append-nil r.h.log);
-        slots = refl;
-        consumer = λ _. refl;
-        keeper = refl;
-        front = λ _. (refl, refl, (λ e. e));
-        gate = λ _. (refl, refl, refl, (λ _. refl), (λ _. refl));
-        turns = λ _. (refl, refl);
-        given = λ _ _ e. e;
-        putting = λ j c ne e low word. (low, word);
-      } in
       let knows : Knows plan s' r.h by w = record {
         claims = record {
           mine = each_append (λ c. (x : Placing) × IsEntered plan.first r.h.log c.place x × (x.claim ≡ c)) v.mine u.mine k.claims.mine theirs.claims.mine;
@@ -134,7 +122,7 @@ module _ (plan : Plan) where
         room = k.room;
       } in
       join s r by v other u w r.h.keeper at apart there f.own empty idle theirs_idle refl (λ p. times-append p v.mine u.mine)
-      (seats_joined s s' r.h by other w refl knows (λ j x ne _ e. knows_apart plan s s' r r.h by j x others ne (r.seats j x e)))
+      (seats_joined s s' r.h by other w refl knows (λ j x ne _ e. knows_apart plan s s' r r.h by j x (apart_same plan s r.h by s'.views) ne (r.seats j x e)))
 
   -- ---- the keeper's part comes to the consumer's seat
 

@@ -43,9 +43,9 @@ module _ (plan : Plan) where
     room = past_later s.words r.h.now v.room (k.room live) r.capacity;
   }
 
-  -- a step that changes nothing but what the seat saw leaves all others as they were
-  pub apart_same : (s : RingState) (h : Standing) (by : ℕ) (w : View) → Apart plan.first s (record s { views = set s.views by w }) h h by
-  apart_same s h by w = record {
+  -- a step that changes no word and no slot leaves all other seats as they were
+  pub apart_same : (s : RingState) (h : Standing) (by : ℕ) (views : List View) → Apart plan.first s (record s { views = views }) h h by
+  apart_same s h by views = record {
     goes = goes_same s.words h.now;
     more = [];
     log = sym (append-nil h.log);
@@ -119,7 +119,7 @@ module _ (plan : Plan) where
         sizes = r.sizes;
         places = λ p a b. place_stays plan.first s s' r.h r.h p [] (sym (append-nil r.h.log)) refl refl (λ t. t) (λ t. t) (λ t. t) (λ t. t)
             (still_set s by v w p at same_putting s' refl) (hand_set s r.h by v w p at same_hand s' r.h refl refl refl) (r.places p a b);
-        seats = seats_set plan s s' r r.h by w refl (apart_same s r.h by w) mine;
+        seats = seats_set plan s s' r r.h by w refl (apart_same s r.h by (set s.views by w)) mine;
         parts = let t = total_set (λ x. x.parts) s.views by v w at in let o = r.parts in omega (arith, t, o, same_parts);
         once = λ p.
             let t = total_set (λ x. times p x.mine) s.views by v w at in

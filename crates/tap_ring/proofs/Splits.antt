@@ -1,5 +1,5 @@
 -- How tokens come from one seat.
-use Rattle.std.proofs.Common.{◌≡◌, ◌≢◌, ℕ, ◌+◌, ◌≤◌, ◌<◌, eqb, List, [], ◌∷◌, ◌++◌, length, set, None, true, false, refl, sym, ap, ◌∙◌, subst, ⊎_elim, arith, append-nil, length-set}
+use Rattle.std.proofs.Common.{◌≡◌, ◌≢◌, ℕ, ◌+◌, ◌<◌, eqb, [], ◌∷◌, ◌++◌, length, set, None, true, false, refl, sym, ap, ◌∙◌, subst, ⊎_elim, arith, append-nil, length-set}
 use Rattle.std.proofs.lemmas.Bool.Decides.{eqb_tells}
 use mathlib.Core.Option.{some, some-injective}
 use lib.ListN.{get_elem?}

@@ -290,5 +290,6 @@ pub record IsEnd (plan : Plan) (all : List Token) (c k : View) (claimed freed li
   pub rising : EpochsNeverFall (claims_of all)
   pub capacities : AllGiven plan.capacity k.resized all
   pub order : (plan.first ≤ freed) × (freed ≤ lifted) × (lifted ≤ claimed)
+  pub turns : (k.gate.epoch ≡ length k.opened) × (k.gate.resizes ≡ length k.resized)
   pub later : k.gate.claimed ≤ claimed
   pub still : k.gate.shut ≡ true → claimed ≡ k.gate.claimed

@@ -12,6 +12,7 @@ turns_to place (claimed ∷ more) = (if nat_lt place claimed then 0 else 1) + tu
 abbrev pub IsGiven : ℕ → List ℕ → ℕ → ℕ → Type 0
 IsGiven first resized number capacity = slice_get (first ∷ resized) number ≡ Some capacity
 
+-- a capacity that was loaded, under this number of resizes
 abbrev pub loaded : ℕ → ℕ → Loaded
 loaded resizes capacity = record { resizes = resizes; capacity = capacity }
 

@@ -9,9 +9,9 @@
 //! To a contract a token is what it knows, a [`View`]: its claims or the frames that it lifted, and
 //! what the ring was, a [`Moment`], at the steps by which it saw it.
 //!
-//! `specs/GateWord.antt` has the gate word, `specs/Standing.antt` the rule that holds between any two
-//! steps, `specs/Steps.antt` what each kind of step tells, and `specs/Calls.antt` what each call
-//! promises.
+//! `specs/GateWord.antt` has the gate word, `specs/Turns.antt` what is kept of reopenings and resizes,
+//! `specs/Standing.antt` the rule that holds between any two steps, `specs/Steps.antt` what each kind
+//! of step tells, and `specs/Calls.antt` what each call promises.
 #![tactic(auto)]
 
 mod consumer;

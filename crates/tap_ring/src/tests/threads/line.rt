@@ -109,12 +109,7 @@ fn wait_for<J: RingName, R: Wait>(rt: &R, front: &Mutex<Front<J>>, least: u64) {
 }
 
 // Reopens the gate, once every place is free.
-fn reopen<J: RingName, R: Wait>(
-    rt: &R,
-    ring: &TapRing,
-    front: &Mutex<Front<J>>,
-    k: &mut Keeper,
-)
+fn reopen<J: RingName, R: Wait>(rt: &R, ring: &TapRing, front: &Mutex<Front<J>>, k: &mut Keeper)
     requires ring { (ring.now.ring ≡ J.ring) × (k.old.ring ≡ J.ring) }
     requires shut { k.old.view.gate.shut ≡ true }
     ensures ring { k.new.ring ≡ k.old.ring }
