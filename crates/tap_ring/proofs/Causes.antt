@@ -1,5 +1,6 @@
 -- From what the steps of a put told to what the call promises.
-use Rattle.std.proofs.Common.{◌≡◌, ℕ, ◌+◌, ◌^◌, ◌<◌, [], ◌∷◌, ◌++◌, refl, sym, ap, ◌∙◌, subst, inl, arith, ◌≤◌}
+use Rattle.std.proofs.Common.{◌≡◌, ℕ, ◌+◌, ◌^◌, ◌<◌, [], ◌∷◌, ◌++◌, refl, sym, ap, ◌∙◌, subst, inl, append-nil, Result, Ok, Err, arith, ◌≤◌}
+use Rattle.std.specs.Prelude.{IfOk, IfErr}
 use Rattle.tap_frame.specs.Frame.{FrameValue}
 use Rattle.tap_ring.specs.declared.rule.Moment.{Moment}
 use Rattle.tap_ring.specs.declared.rule.Claim.{Claim}
@@ -8,7 +9,11 @@ use Rattle.tap_ring.specs.GateWord.{claimed_of, is_shut, epoch_of, resizes_of}
 use Rattle.tap_ring.specs.Moments.{Fits, IsOpen, gate_of}
 use Rattle.tap_ring.specs.Standing.{EachClaim}
 use Rattle.tap_ring.specs.Steps.{IsNew, claim, seen_gate, seen_capacity, seen_freed, ClaimedThen, MissedThen}
-use Rattle.tap_ring.specs.Calls.{Placed, IsContended, IsOpenWord}
+use Rattle.tap_ring.specs.declared.producer.PutBack.{PutBack}
+use Rattle.tap_ring.specs.declared.producer.Why.{Why}
+use Rattle.tap_ring.specs.declared.producer.Why.TheVariants.{Gone, Spent, Full, Contended}
+use Rattle.tap_ring.specs.Turns.{loaded}
+use Rattle.tap_ring.specs.Calls.{LoadedMore, Placed, IsCause, IsContended, IsOpenWord}
 use Rattle.tap_ring.proofs.Kit.{parts_equal, gate_parts}
 
 -- the parts of a moment's gate word
@@ -99,3 +104,14 @@ missed_then epoch gate found resizes freed capacity v v1 v2 v3 w m m3 is new one
     subst (λ n. IsContended epoch n found resizes v w) (sym is)
     (missed_at epoch found resizes v w m m3 new (subst (λ (x : View). IsNew x m3) second new3) o.0 o.1 (omega (arith, first, named, freed_is, free)) (resizes_is ∙ ap resizes_of is ∙ parts.3)
     (subst (λ (x : ℕ × View). MissedThen x.0 found x.1 w) (λ i. (is i, (three ∙ ap (seen_freed m3) second) i)) t))
+
+why_loads : (epoch : ℕ) (why : Why) (resizes : ℕ) (v w : View) → IsCause epoch why resizes v w → LoadedMore v w
+why_loads epoch (Gone found shut) resizes v w k = ([], k.loaded_is ∙ sym (append-nil v.loaded))
+why_loads epoch (Spent claimed) resizes v w k = ([], k.loaded_is ∙ sym (append-nil v.loaded))
+why_loads epoch (Full claimed freed) resizes v w k = (loaded w.asked.resizes w.asked.capacity ∷ [], k.asked.loaded_is)
+why_loads epoch (Contended expected found) resizes v w k = (loaded w.asked.resizes w.asked.capacity ∷ [], k.asked.loaded_is)
+
+-- whatever came of a put, at most one capacity more was loaded
+pub put_loads : (epoch : ℕ) (frame : FrameValue) (r : Result ℕ PutBack) (v w : View) → IfOk r (λ place. Placed epoch frame place v w) → IfErr r (λ back. IsCause epoch back.why back.resizes v w) → LoadedMore v w
+put_loads epoch frame (Ok place) v w placed cause = (loaded w.asked.resizes w.asked.capacity ∷ [], placed.asked.loaded_is)
+put_loads epoch frame (Err back) v w placed cause = why_loads epoch back.why back.resizes v w cause

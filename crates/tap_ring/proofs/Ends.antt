@@ -16,7 +16,8 @@ use Rattle.tap_ring.specs.GateWord.{claimed_of}
 use Rattle.tap_ring.specs.Turns.{turns_to, EachGiven}
 use Rattle.tap_ring.specs.Standing.{RingState, Placing, slots_of, home_at, IsEntered, IsReady, IsClaimed, IsInHand, EachClaim, KnowsFront, Ring, frames_of, times, total, within}
 use Rattle.tap_ring.specs.Steps.{with_producer, with_keeper}
-use Rattle.tap_ring.specs.Calls.{Token, StandsIn, AllClaims, AllGiven, EpochsNeverFall, IsEnd, claims_of, claims_to}
+use Rattle.tap_ring.specs.Calls.{Token}
+use Rattle.tap_ring.specs.Finish.{StandsIn, AllClaims, AllGiven, EpochsNeverFall, IsEnd, claims_of, claims_to}
 use Rattle.tap_ring.specs.Leaving.{present, slots_from, gathered}
 use Rattle.tap_ring.proofs.Kit.{some_not_none, before_end, each_append, each_map, times-append}
 use Rattle.tap_ring.proofs.Counts.{turns_rise, given_parts}

@@ -8,7 +8,8 @@ use native.Mathlib.Nat.{add-mod_left}
 use Rattle.tap_frame.specs.Frame.{FrameValue}
 use Rattle.tap_ring.specs.Leaving.{present, slots_from}
 use Rattle.atomic_table.specs.Seated.{TableId}
-use Rattle.tap_ring.specs.Calls.{Token, AllOfRing}
+use Rattle.tap_ring.specs.Calls.{Token}
+use Rattle.tap_ring.specs.Finish.{AllOfRing}
 use Rattle.tap_ring.proofs.Kit.{take_next}
 
 module _ {A : Type 0} where

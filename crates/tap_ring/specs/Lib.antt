@@ -4,4 +4,5 @@ pub mod Turns
 pub mod Standing
 pub mod Steps
 pub mod Calls
+pub mod Finish
 pub mod Leaving

@@ -2,7 +2,7 @@
 
 ghost use Rattle.std.specs.Prelude.{◌≡◌, ℕ, ◌+◌, ◌-◌, ◌%◌, ◌<◌, ◌≤◌, true, false, [], ◌∷◌, ◌++◌, take, drop, length, slice_index_or, vec_len, vec_capacity, None};
 ghost use Rattle.std.specs.Mem.Slots.{slots_items, slots_filled, slots_len, IsFull};
-ghost use Rattle.tap_ring.specs.Calls.{IsEnd, AllOfRing};
+ghost use Rattle.tap_ring.specs.Finish.{IsEnd, AllOfRing};
 ghost use Rattle.tap_ring.specs.Steps.{with_producer, with_keeper};
 ghost use Rattle.tap_ring.specs.Leaving.{present, slots_from, gathered};
 

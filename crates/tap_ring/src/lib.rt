@@ -11,7 +11,8 @@
 //!
 //! `specs/GateWord.antt` has the gate word, `specs/Turns.antt` what is kept of reopenings and resizes,
 //! `specs/Standing.antt` the rule that holds between any two steps, `specs/Steps.antt` what each kind
-//! of step tells, and `specs/Calls.antt` what each call promises.
+//! of step tells, `specs/Calls.antt` what each call promises, and `specs/Finish.antt` what is so at the
+//! end.
 #![tactic(auto)]
 
 mod consumer;

@@ -5,7 +5,7 @@ ghost use Rattle.tap_frame.specs.Frame.{FrameValue};
 ghost use Rattle.tap_ring.specs.Moments.{Fits, gate_of};
 ghost use Rattle.tap_ring.specs.Steps.{IsNew, seen_gate, ClaimedThen, MissedThen};
 ghost use Rattle.tap_ring.specs.declared.rule.Moment.{Moment};
-ghost use Rattle.tap_ring.specs.Calls.{IsProducer, SawMore, SameHands, Placed, IsCause, IsOpenWord, RefusesWord, IsSecondLook};
+ghost use Rattle.tap_ring.specs.Calls.{IsProducer, SawMore, LoadedMore, SameHands, Placed, IsCause, IsOpenWord, RefusesWord, IsSecondLook};
 
 use crate::gate::{CLAIMS_END, claimed_of, epoch_of, is_shut, resizes_of};
 use crate::ring::TapRing;
@@ -200,6 +200,7 @@ impl TapRing {
         requires ring { p.old.ring ≡ self.now.ring }
         ensures ring { p.new.ring ≡ p.old.ring }
         ensures seen_more { SawMore p.old.view p.new.view }
+        ensures loaded_more { LoadedMore p.old.view p.new.view }
         ensures placed { IfOk result (λ place. Placed epoch frame place p.old.view p.new.view) }
         ensures frame_unchanged { IfErr result (λ back. back.frame ≡ frame) }
         ensures nothing_claimed { IfErr result (λ back. SameHands p.old.view p.new.view) }

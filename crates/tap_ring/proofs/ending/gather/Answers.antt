@@ -1,5 +1,5 @@
 use Rattle.std.proofs.Common.{arith, ◌≡◌, ◌++◌, ◌∷◌, [], length, length-append, sym, ap, ◌∙◌, subst}
-use Rattle.tap_ring.specs.Calls.{AllOfRing}
+use Rattle.tap_ring.specs.Finish.{AllOfRing}
 use Rattle.tap_ring.specs.Steps.{Seated}
 use Rattle.tap_ring.specs.Leaving.{gathered}
 use Rattle.tap_ring.proofs.Lines.{ring_parts}

@@ -1,5 +1,5 @@
 use Rattle.std.proofs.Common.{◌≡◌, ◌+◌, [], None, true, length, vec_len}
-use Rattle.tap_ring.specs.Calls.{AllOfRing}
+use Rattle.tap_ring.specs.Finish.{AllOfRing}
 use Rattle.tap_ring.specs.Leaving.{gathered}
 use Rattle.tap_ring.proofs.ending.gather.Given as goal
 

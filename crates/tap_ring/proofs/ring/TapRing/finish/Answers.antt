@@ -4,7 +4,8 @@ use Rattle.tap_frame.specs.Frame.{FrameValue}
 use Rattle.tap_ring.specs.declared.rule.View.{View}
 use Rattle.tap_ring.specs.declared.rule.Plan.{Plan}
 use Rattle.tap_ring.specs.GateWord.{claimed_of}
-use Rattle.tap_ring.specs.Calls.{Token, RingValue, IsEnd}
+use Rattle.tap_ring.specs.Calls.{Token, RingValue}
+use Rattle.tap_ring.specs.Finish.{IsEnd}
 use Rattle.tap_ring.specs.Steps.{Seated}
 use Rattle.tap_ring.specs.Leaving.{present, slots_from, gathered}
 use Rattle.tap_ring.proofs.Lines.{index_there}
