@@ -13,7 +13,8 @@ use std::marker::Model;
 /// A ring's one keeper.
 ///
 /// To a contract it is the ring that it is of, and what it knows: of the gate that is whether it is
-/// shut, the epoch, the number of resizes, and of a shut one the claim count.
+/// shut, the epoch, the number of resizes, and of a shut one the claim count; and the claim count at
+/// each reopening, and the capacity of each resize.
 #[derive(Drop)]
 pub struct Keeper {
     pub(crate) seat: RingSeat,

@@ -72,6 +72,26 @@ fn end(ended: Ended) -> (u64, u64, u64, usize) {
     counts
 }
 
+const FULL: Why = Why::Full {
+    claimed: 2,
+    freed: 0,
+};
+
+const SHUT: Why = Why::Gone {
+    found: 1,
+    shut: true,
+};
+
+const UNDRAINED: Reopen = Reopen::NotDrained {
+    claimed: 3,
+    freed: 1,
+};
+
+const REOPENED: Why = Why::Gone {
+    found: 2,
+    shut: false,
+};
+
 #[test]
 fn a_ring_from_its_start_to_its_end(rt: HostRuntime) -> Result<(), Fail> {
     let Parts {
@@ -89,33 +109,17 @@ fn a_ring_from_its_start_to_its_end(rt: HostRuntime) -> Result<(), Fail> {
     };
     assert_eq!(rt; put(a, &ring, &mut p, 1, 10), Outcome::At(0));
     assert_eq!(rt; put(a, &ring, &mut p, 1, 11), Outcome::At(1));
-    let full = Why::Full {
-        claimed: 2,
-        freed: 0,
-    };
-    assert_eq!(rt; put(a, &ring, &mut p, 1, 12), Outcome::Back(full));
+    assert_eq!(rt; put(a, &ring, &mut p, 1, 12), Outcome::Back(FULL));
     assert_eq!(rt; take(&ring, &mut c), Ok(10));
     assert_eq!(rt; put(a, &ring, &mut p, 1, 13), Outcome::At(2));
     assert_eq!(rt; ring.shut(&mut k), 3);
-    let gone = Why::Gone {
-        found: 1,
-        shut: true,
-    };
-    assert_eq!(rt; put(a, &ring, &mut p, 1, 14), Outcome::Back(gone));
-    let undrained = Reopen::NotDrained {
-        claimed: 3,
-        freed: 1,
-    };
-    assert_eq!(rt; ring.reopen(&mut k, &c), Err(undrained));
+    assert_eq!(rt; put(a, &ring, &mut p, 1, 14), Outcome::Back(SHUT));
+    assert_eq!(rt; ring.reopen(&mut k, &c), Err(UNDRAINED));
     assert_eq!(rt; take(&ring, &mut c), Ok(11));
     assert_eq!(rt; take(&ring, &mut c), Ok(13));
     assert_eq!(rt; take(&ring, &mut c), Err(NotReady { place: 3 }));
     assert_eq!(rt; ring.reopen(&mut k, &c), Ok(2));
-    let gone = Why::Gone {
-        found: 2,
-        shut: false,
-    };
-    assert_eq!(rt; put(a, &ring, &mut p, 1, 15), Outcome::Back(gone));
+    assert_eq!(rt; put(a, &ring, &mut p, 1, 15), Outcome::Back(REOPENED));
     assert_eq!(rt; put(a, &ring, &mut p, 2, 16), Outcome::At(3));
     producers.push_reserved(p);
     assert_eq!(rt; end(ring.finish(producers, c, k)), (4, 3, 3, 1));
