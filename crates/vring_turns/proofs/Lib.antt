@@ -1,3 +1,4 @@
 mod TxRuns
 mod RxRuns
 mod TxFrames
+mod Publishes

@@ -2,6 +2,8 @@
 ghost use Rattle.vring_turns.specs.TxExamples.{OneIsSent, NoneIsSent, HaltPublishes, ShortIsRefused, ManyTakeTwoTurns};
 ghost use Rattle.vring_turns.specs.TxRun.{TransmitTurnsDo, TransmitTurnsPass};
 ghost use Rattle.vring_turns.specs.RxRun.{ReceiveTurnsDo};
+ghost use Rattle.vring_turns.specs.Publications.{TransmitTurnsPublish, ReceiveTurnsPublish};
+ghost use Rattle.vring_turns.specs.RxLine.{ReceiveTurnsPass};
 ghost use Rattle.vring_turns.specs.RxExamples.{TwoChainsTakeIt, OneChainIsShort, OneChainOverruns, BadTableStops, NoChainIsShort};
 
 /// What a whole transmit turn did, whatever others write into the memory between its steps: each chain
@@ -11,13 +13,15 @@ ghost use Rattle.vring_turns.specs.RxExamples.{TwoChainsTakeIt, OneChainIsShort,
 pub fn transmit_turns()
     ensures chains { TransmitTurnsDo }
     ensures frames { TransmitTurnsPass }
+    ensures publications { TransmitTurnsPublish }
 {}
 
 /// What a whole receive turn did, whatever others write into the memory between its steps: packets and
 /// bytes are those of the frames that left the line; the chains into which frames were copied are published
 /// or done with the bytes that they got, in their order, behind all that was before; and no other chain is.
 pub fn receive_turns()
-    ensures { ReceiveTurnsDo }
+    ensures chains { ReceiveTurnsDo }
+    ensures publications { ReceiveTurnsPublish }
 {}
 
 /// Receive turns on worked rings.

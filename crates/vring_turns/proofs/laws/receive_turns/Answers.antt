@@ -1,5 +1,9 @@
 use Rattle.vring_turns.proofs.RxRuns.{run_did}
+use Rattle.vring_turns.proofs.Publishes.{receive_publishes}
 use Rattle.vring_turns.proofs.laws.receive_turns.Goals as goal
 
-pub returns : goal.returns
-returns c = run_did
+pub returns-clause-chains : goal.returns-clause-chains
+returns-clause-chains c = run_did
+
+pub returns-clause-publications : goal.returns-clause-publications
+returns-clause-publications c = receive_publishes
