@@ -2,3 +2,4 @@ mod TxRuns
 mod RxRuns
 mod TxFrames
 mod Publishes
+mod RxLines

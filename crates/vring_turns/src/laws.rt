@@ -22,6 +22,7 @@ pub fn transmit_turns()
 pub fn receive_turns()
     ensures chains { ReceiveTurnsDo }
     ensures publications { ReceiveTurnsPublish }
+    ensures line { ReceiveTurnsPass }
 {}
 
 /// Receive turns on worked rings.
