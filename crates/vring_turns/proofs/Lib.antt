@@ -3,3 +3,4 @@ mod RxRuns
 mod TxFrames
 mod Publishes
 mod RxLines
+mod Standings

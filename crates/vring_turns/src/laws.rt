@@ -4,6 +4,9 @@ ghost use Rattle.vring_turns.specs.TxRun.{TransmitTurnsDo, TransmitTurnsPass};
 ghost use Rattle.vring_turns.specs.RxRun.{ReceiveTurnsDo};
 ghost use Rattle.vring_turns.specs.Publications.{TransmitTurnsPublish, ReceiveTurnsPublish};
 ghost use Rattle.vring_turns.specs.RxLine.{ReceiveTurnsPass};
+ghost use Rattle.vring_turns.specs.Standing.{TransmitTurnsBegin, TransmitTurnsStand, TransmitTurnsKeepOrder, ReceiveTurnsBegin, ReceiveTurnsStand, ReceiveTurnsKeepOrder};
+
+use vhost_queue::positions_stay_in_order;
 ghost use Rattle.vring_turns.specs.RxExamples.{TwoChainsTakeIt, OneChainIsShort, OneChainOverruns, BadTableStops, NoChainIsShort};
 
 /// What a whole transmit turn did, whatever others write into the memory between its steps: each chain
@@ -24,6 +27,17 @@ pub fn receive_turns()
     ensures publications { ReceiveTurnsPublish }
     ensures line { ReceiveTurnsPass }
 {}
+
+/// How a transmit turn and its ring stand between two steps, whatever others write into the memory meanwhile:
+/// one chain is gathered from its fetch to its copy, the turn ends for the cause that it tells, nothing is
+/// served and not published then, and the k-th chain of a list of positions has the k-th position.
+pub fn transmit_standing()
+    ensures begins { TransmitTurnsBegin }
+    ensures stands { TransmitTurnsStand }
+    ensures order { TransmitTurnsKeepOrder }
+{
+    positions_stay_in_order();
+}
 
 /// Receive turns on worked rings.
 pub fn receive_examples()
