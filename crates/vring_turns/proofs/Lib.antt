@@ -4,3 +4,4 @@ mod TxFrames
 mod Publishes
 mod RxLines
 mod Standings
+mod RxStandings

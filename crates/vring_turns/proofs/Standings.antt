@@ -71,7 +71,7 @@ tx_closing_stands :
 tx_closing_stands true e t q is none cause = (none, cause, zero_of (done_in q) is)
 tx_closing_stands false e t q is none cause = (none, cause)
 
-few : (n : ℕ) → nat_le 64 n ≡ false → n < 64
+pub few : (n : ℕ) → nat_le 64 n ≡ false → n < 64
 few n e = grind arith
 
 tx_packet_stands :

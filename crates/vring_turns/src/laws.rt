@@ -39,6 +39,18 @@ pub fn transmit_standing()
     positions_stay_in_order();
 }
 
+/// How a receive turn and its ring stand between two steps, whatever others write into the memory meanwhile:
+/// chains are gathered while they are too short for the frame in hand and fewer than it may go into, the turn
+/// ends for the cause that it tells, nothing is served and not published then, and the k-th chain of a list
+/// of positions has the k-th position.
+pub fn receive_standing()
+    ensures begins { ReceiveTurnsBegin }
+    ensures stands { ReceiveTurnsStand }
+    ensures order { ReceiveTurnsKeepOrder }
+{
+    positions_stay_in_order();
+}
+
 /// Receive turns on worked rings.
 pub fn receive_examples()
     ensures two_chains { TwoChainsTakeIt }

@@ -18,6 +18,9 @@ mod step;
 
 pub use crate::cases::{gathering_examples, publishing_examples, transmit_cases};
 pub use crate::end::{End, TurnEnd};
-pub use crate::laws::{receive_examples, receive_turns, transmit_examples, transmit_turns};
+pub use crate::laws::{
+    receive_examples, receive_standing, receive_turns, transmit_examples, transmit_standing,
+    transmit_turns,
+};
 pub use crate::stage::{After, RxStage, TxStage};
 pub use crate::step::Step;
