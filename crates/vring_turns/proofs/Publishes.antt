@@ -28,7 +28,7 @@ use Rattle.vring_turns.specs.TxTurn.{TxTurn, TxState, tx_ring, tx_made, tx_done,
 use Rattle.vring_turns.specs.TxRun.{Moment, IsTxRun}
 use Rattle.vring_turns.specs.RxTurn.{RxTurn, RxState, rx_ring, rx_made, rewinding, rx_outs, rx_puts_back, rx_hands, rx_with, rx_in_hand, rx_next, stage_of, rx_at, rx_closing, rx_rewinds, rx_way, rx_after_fetch, rx_after_second}
 use Rattle.vring_turns.specs.RxRun.{RxMoment, IsRxRun}
-use Rattle.vring_turns.specs.Publications.{RingMoment, of_transmit, of_receive, PublishesAt, AllPublish, entries_at, entries_by, TurnPublishes}
+use Rattle.vring_turns.specs.Publications.{RingMoment, of_transmit, of_receive, PublishesAt, entries_at, entries_by, TurnPublishes}
 use Rattle.vring_turns.proofs.TxRuns.{some_is, published_made}
 use Rattle.vring_turns.proofs.RxRuns.{published_made as received_made, copied_made}
 

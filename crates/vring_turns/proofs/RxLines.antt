@@ -2,8 +2,6 @@
 use Rattle.std.proofs.Common.{◌≡◌, ℕ, ◌+◌, Bool, true, false, List, [], ◌∷◌, ◌++◌, length, map, Option, None, Some, IfSome, is_some, if◌then◌else◌, nat_le, nat_eq, refl, sym, ap, ◌∙◌, subst, append_assoc}
 use Rattle.std.specs.Option.{option_to_list}
 use Rattle.std.proofs.lemmas.List.{append-nil, map-append}
-use Rattle.vring_walk.specs.declared.walk.Fetched.{Fetched}
-use Rattle.vring_walk.specs.declared.walk.Fetched.TheVariants.{Chain, Nothing, Bad, Crowded}
 use Rattle.vhost_queue.specs.Queue.{Queue}
 use Rattle.tap_frame.specs.Frame.{FrameValue}
 use Rattle.tap_ledger.specs.declared.act.Act.{Act}
@@ -18,104 +16,22 @@ use Rattle.vring_turns.specs.declared.end.End.{End}
 use Rattle.vring_turns.specs.declared.end.End.TheVariants as end
 use Rattle.vring_turns.specs.declared.stage.RxStage.{RxStage}
 use Rattle.vring_turns.specs.declared.stage.RxStage.TheVariants as stage
-use Rattle.vring_turns.specs.declared.stage.After.{After}
-use Rattle.vring_turns.specs.declared.stage.After.TheVariants as after
-use Rattle.vring_turns.specs.Ring.{Gathered, Made, room_in, found, fetches, noticed, done_in}
+use Rattle.vring_turns.specs.Ring.{Made, room_in, found, fetches, noticed, done_in}
 use Rattle.vring_turns.specs.Turn.{is_enough, publishes_at}
 use Rattle.vring_turns.specs.ReceiveImage.{need_of}
 use Rattle.vring_turns.specs.Hands.{Hands, MovesAt}
-use Rattle.vring_turns.specs.RxTurn.{RxTurn, RxState, quota, overrun, gathers, goes_on, rx_ring, rx_made, rewinding, rx_outs, rx_puts_back, rx_hands, rx_with, rx_in_hand, rx_next, stage_of, rx_at, rx_closing, rx_rewinds, rx_way, rx_after_packet, rx_after_fetch, rx_after_second}
-use Rattle.vring_turns.specs.RxRun.{RxMoment, IsRxRun, needed_by}
-use Rattle.vring_turns.specs.RxLine.{LineMoment, MayBecome, AreMoves, with_fate, leaves_at, left_by, has_frame, HasFront, LeavesFront, TellsNeed, IsInFront, Handles, PassesLine}
+use Rattle.vring_turns.specs.RxTurn.{RxTurn, RxState, overrun, rx_ring, rx_made, rewinding, rx_outs, rx_puts_back, rx_hands, rx_with, rx_in_hand, rx_next, stage_of, rx_at, rx_closing, rx_rewinds, rx_way, rx_after_fetch, rx_after_second}
+use Rattle.vring_turns.specs.RxRun.{IsRxRun, needed_by}
+use Rattle.vring_turns.specs.RxLine.{LineMoment, MayBecome, AreMoves, with_fate, leaves_at, left_by, has_frame, LeavesFront, TellsNeed, IsInFront, Handles, PassesLine}
 use Rattle.vring_turns.proofs.TxRuns.{some_is}
 use Rattle.vring_turns.proofs.RxRuns.{published_made, copied_made}
+use Rattle.vring_turns.proofs.LineStages.{closing_has, closing_front, packet_has, packet_front, way_has, way_front, first_front, second_front, first_has, second_has, stage_more}
 
 abbrev frame_of : FrameValue × Fate → FrameValue
 frame_of x = x.0
 
 abbrev out_of : FrameValue × Fate → OutFrame
 out_of x = out_with x.1 x.0
-
--- What a stage says.
-
-closing_has : (b : Bool) (e : End) → has_frame (if b then stage.Ended e else stage.Publish (Some e)) ≡ false
-closing_has true e = refl
-closing_has false e = refl
-
-closing_front :
-    (b : Bool) (e : End) (t : RxTurn) (ws : List FrameValue)
-    → LeavesFront e t.header ws → IsInFront (if b then stage.Ended e else stage.Publish (Some e)) t ws
-closing_front true e t ws h = h
-closing_front false e t ws h = h
-
-packet_has : (a b c : Bool)
-    → has_frame (if a then (if c then stage.Ended end.Again else stage.Publish (Some end.Again))
-      else (if b then stage.Publish None else stage.Hand)) ≡ false
-packet_has true b c = closing_has c end.Again
-packet_has false true c = refl
-packet_has false false c = refl
-
-packet_front : (a b c : Bool) (t : RxTurn) (ws : List FrameValue)
-    → IsInFront (if a then (if c then stage.Ended end.Again else stage.Publish (Some end.Again))
-      else (if b then stage.Publish None else stage.Hand)) t ws
-packet_front true b c t ws = closing_front c end.Again t ws tt
-packet_front false true c t ws = tt
-packet_front false false c t ws = tt
-
-way_has : (way : After) → has_frame (stage_of way) ≡ true
-way_has after.Fetch = refl
-way_has after.Copy = refl
-way_has (after.Discard had) = refl
-way_has (after.PutBack e) = refl
-
-way_front :
-    (way : After) (t u : RxTurn) (ws : List FrameValue)
-    → u.header ≡ t.header → u.held ≡ t.held → IsInFront (stage.NoticesOff way) t ws → IsInFront (stage_of way) u ws
-way_front after.Fetch t u ws a b h = tt
-way_front after.Copy t u ws a b h = tt
-way_front (after.Discard had) t u ws a b h = tt
-way_front (after.PutBack (end.Short need had)) t u ws a b h =
-    ap (λ n. needed_by n u.held) a ∙ (ap (λ o. needed_by t.header o) b ∙ h)
-way_front (after.PutBack end.Idle) t u ws a b h = tt
-way_front (after.PutBack end.Again) t u ws a b h = tt
-way_front (after.PutBack (end.Stopped fault)) t u ws a b h = tt
-way_front (after.PutBack end.Off) t u ws a b h = tt
-way_front (after.PutBack end.NoMemory) t u ws a b h = tt
-
--- a way that a fetch leads to puts nothing back as too short
-abbrev IsPlain : After → Type 0
-IsPlain way = (t : RxTurn) (ws : List FrameValue) → IsInFront (stage.NoticesOff way) t ws × IsInFront (stage_of way) t ws
-
-gathers_plain : (a b : Bool) (had : ℕ) → IsPlain (if a then after.Copy else (if b then after.Discard had else after.Fetch))
-gathers_plain true b had t ws = (tt, tt)
-gathers_plain false true had t ws = (tt, tt)
-gathers_plain false false had t ws = (tt, tt)
-
-first_front :
-    (m : Bool) (need : ℕ) (cs : List Gathered) (f : Fetched) (t : RxTurn) (ws : List FrameValue)
-    → IsInFront (rx_after_fetch (goes_on m need cs f)) t ws
-first_front m need cs (Chain head) t ws =
-    (gathers_plain (nat_le need (room_in cs)) (nat_le (quota m) (length cs)) (room_in cs) t ws).1
-first_front m need cs Nothing t ws = tt
-first_front m need cs (Bad fault) t ws = tt
-first_front m need cs Crowded t ws = tt
-
-second_front :
-    (m : Bool) (need : ℕ) (cs old : List Gathered) (f : Fetched) (t : RxTurn) (ws : List FrameValue)
-    → needed_by t.header t.held ≡ need → IsInFront (rx_after_second need old (goes_on m need cs f)) t ws
-second_front m need cs old (Chain head) t ws e =
-    (gathers_plain (nat_le need (room_in cs)) (nat_le (quota m) (length cs)) (room_in cs) t ws).0
-second_front m need cs old Nothing t ws e = e
-second_front m need cs old (Bad fault) t ws e = tt
-second_front m need cs old Crowded t ws e = tt
-
-first_has : (o : Option After) → has_frame (rx_after_fetch o) ≡ true
-first_has None = refl
-first_has (Some way) = way_has way
-
-second_has : (need : ℕ) (cs : List Gathered) (o : Option After) → has_frame (rx_after_second need cs o) ≡ true
-second_has need cs None = refl
-second_has need cs (Some way) = refl
 
 -- One step.
 
@@ -392,38 +308,7 @@ both_pass t u v f g h xs ys a b =
       handles = b.handles;
     }
 
--- others may send frames
-front_more :
-    (P : FrameValue → Type 0) (ws vs : List FrameValue) → HasFront P ws → Extends ws vs → HasFront P vs
-front_more P ws vs (frame, rest, e, p) (more, k) = (frame, rest ++ more, k ∙ ap (λ l. l ++ more) e, p)
-
-leaves_more :
-    (e : End) (n : ℕ) (ws vs : List FrameValue) → LeavesFront e n ws → Extends ws vs → LeavesFront e n vs
-leaves_more (end.Short need had) n ws vs h more = front_more (λ frame. need_of n frame ≡ need) ws vs h more
-leaves_more (end.Stopped fault) n ws vs h more = front_more (λ frame. Unit {0}) ws vs h more
-leaves_more end.Idle n ws vs h more = tt
-leaves_more end.Again n ws vs h more = tt
-leaves_more end.Off n ws vs h more = tt
-leaves_more end.NoMemory n ws vs h more = tt
-
-stage_more :
-    (st : RxStage) (t : RxTurn) (ws vs : List FrameValue) → IsInFront st t ws → Extends ws vs → IsInFront st t vs
-stage_more stage.Begin t ws vs h more = tt
-stage_more stage.Hand t ws vs h more = tt
-stage_more stage.Fetch t ws vs h more = tt
-stage_more stage.NoticesOn t ws vs h more = tt
-stage_more stage.FetchAgain t ws vs h more = tt
-stage_more (stage.NoticesOff after.Fetch) t ws vs h more = tt
-stage_more (stage.NoticesOff after.Copy) t ws vs h more = tt
-stage_more (stage.NoticesOff (after.Discard had)) t ws vs h more = tt
-stage_more (stage.NoticesOff (after.PutBack end)) t ws vs h more = h
-stage_more stage.Copy t ws vs h more = tt
-stage_more stage.Out t ws vs h more = tt
-stage_more (stage.Discard had) t ws vs h more = tt
-stage_more (stage.PutBack end) t ws vs h more = h
-stage_more (stage.Publish None) t ws vs h more = tt
-stage_more (stage.Publish (Some end)) t ws vs h more = leaves_more end t.header ws vs h more
-stage_more (stage.Ended end) t ws vs h more = leaves_more end t.header ws vs h more
+-- Others may send frames.
 
 between_passes : (t : RxTurn) (f g : QueueState) → Handles t f → MayBecome f g → PassesLine t t f g []
 between_passes t f g h may = record {

@@ -1,14 +1,13 @@
 -- How a transmit turn and its ring stand after each step, and that the order of positions is kept.
-use Rattle.std.proofs.Common.{◌≡◌, ℕ, zero, suc, ◌+◌, ◌-◌, ◌^◌, ◌<◌, ◌≤◌, Bool, true, false, List, [], ◌∷◌, ◌++◌, length, Option, None, Some, if◌then◌else◌, nat_le, nat_lt, nat_eq, refl, sym, ap, ◌∙◌, subst, arith}
+use Rattle.std.proofs.Common.{◌≡◌, ℕ, ◌+◌, ◌-◌, ◌^◌, ◌<◌, Bool, true, false, List, [], ◌∷◌, ◌++◌, length, Option, None, Some, if◌then◌else◌, nat_le, nat_lt, nat_eq, refl, sym, ap, ◌∙◌, subst, arith}
 use Rattle.std.proofs.lemmas.List.{length-append}
 use Rattle.vring_split.specs.declared.fault.RingFault.{RingFault}
 use Rattle.vring_split.specs.declared.segment.Segment.{Segment}
 use Rattle.vring_walk.specs.declared.walk.Fetched.{Fetched}
 use Rattle.vring_walk.specs.declared.walk.Fetched.TheVariants.{Chain, Nothing, Bad, Crowded}
-use Rattle.vhost_queue.specs.Positions.{Positions, IsInOrder, with_done}
+use Rattle.vhost_queue.specs.Positions.{Positions, IsInOrder}
 use Rattle.vhost_queue.specs.Queue.{Queue}
 use Rattle.vhost_queue.specs.Laws.{ServesInOrder, RewindsInOrder, DoneInOrder, PublishedInOrder}
-use Rattle.tap_frame.specs.declared.name.Name.{Name}
 use Rattle.tap_frame.specs.declared.reading.BadFrame.{BadFrame}
 use Rattle.tap_frame.specs.Frame.{FrameValue}
 use Rattle.tap_ledger.specs.declared.act.Act.{Act}
@@ -18,7 +17,7 @@ use Rattle.vring_turns.specs.declared.end.End.{End}
 use Rattle.vring_turns.specs.declared.end.End.TheVariants as end
 use Rattle.vring_turns.specs.declared.stage.TxStage.{TxStage}
 use Rattle.vring_turns.specs.declared.stage.TxStage.TheVariants as tx
-use Rattle.vring_turns.specs.Ring.{Gathered, Ring, Made, joined, all_rewound, found, fetches, noticed, done_in, first_position}
+use Rattle.vring_turns.specs.Ring.{Gathered, Ring, Made, joined, found, fetches, noticed, done_in, first_position}
 use Rattle.vring_turns.specs.Turn.{is_enough}
 use Rattle.vring_turns.specs.TransmitBytes.{bytes_of_chain, refusal_of}
 use Rattle.vring_turns.specs.TxTurn.{TxTurn, TxState, tx_ring, tx_made, tx_done, tx_judged, tx_copies, tx_gives, tx_after_packet, tx_after_fetch, tx_after_second, tx_after_notices, tx_next}
@@ -78,7 +77,7 @@ tx_packet_stands :
     (a b : Bool) (t : TxTurn) (q : Queue)
     → is_enough t.packets t.bytes t.packets ≡ a → nat_le 64 (done_in q) ≡ b → t.chains ≡ []
     → TxStandsAt (if a then (if nat_eq (done_in q) 0 then tx.Ended end.Again else tx.Publish (Some end.Again))
-      else (if b then tx.Publish None else tx.Fetch)) t q
+    else (if b then tx.Publish None else tx.Fetch)) t q
 tx_packet_stands true b t q enough many none = tx_closing_stands (nat_eq (done_in q) 0) end.Again t q refl none enough
 tx_packet_stands false true t q enough many none = none
 tx_packet_stands false false t q enough many none = (none, few (done_in q) many)
@@ -113,7 +112,7 @@ fetched :
     → done_in s.queue < 64
     → TxStandsAt stage (tx_made (fetches (tx_ring s) s.memory) stage s).0.turn (fetches (tx_ring s) s.memory).ring.queue
     → TxKeeps s.queue.positions (tx_made (fetches (tx_ring s) s.memory) stage s).0.turn
-      (fetches (tx_ring s) s.memory).ring.queue
+    (fetches (tx_ring s) s.memory).ring.queue
 fetched laws s stage gathered none done at =
     let f = found (tx_ring s) s.memory in
     let n : length s.turn.chains ≡ 0 = ap length none in
@@ -131,7 +130,7 @@ first_at :
     (stage : TxStage) (f : Fetched) (segments : List Segment) (s : TxState)
     → s.turn.chains ≡ [] → done_in s.queue < 64 → tx_after_fetch s.queue f ≡ Some stage
     → TxStandsAt stage (record s.turn { chains = (joined f segments (tx_ring s)).chains; stage = stage })
-      (joined f segments (tx_ring s)).queue
+    (joined f segments (tx_ring s)).queue
 first_at stage (Chain head) segments s none done e =
     let c : Gathered = record { head = head; segments = segments } in
     let P : TxStage → Type 0 =
@@ -152,7 +151,7 @@ second_at :
     (stage : TxStage) (f : Fetched) (segments : List Segment) (s : TxState)
     → s.turn.chains ≡ [] → done_in s.queue < 64 → tx_after_second s.queue f ≡ Some stage
     → TxStandsAt stage (record s.turn { chains = (joined f segments (tx_ring s)).chains; stage = stage })
-      (joined f segments (tx_ring s)).queue
+    (joined f segments (tx_ring s)).queue
 second_at stage (Chain head) segments s none done e =
     let c : Gathered = record { head = head; segments = segments } in
     let P : TxStage → Type 0 =
@@ -173,7 +172,7 @@ fetch_keeps :
     OrderLaws → (s s' : TxState) (told : Act) (o : Option TxStage)
     → s.queue.positions.gathered ≡ length s.turn.chains → s.turn.chains ≡ [] → done_in s.queue < 64
     → ((stage : TxStage) → o ≡ Some stage
-      → TxStandsAt stage (tx_made (fetches (tx_ring s) s.memory) stage s).0.turn (fetches (tx_ring s) s.memory).ring.queue)
+    → TxStandsAt stage (tx_made (fetches (tx_ring s) s.memory) stage s).0.turn (fetches (tx_ring s) s.memory).ring.queue)
     → (elim o as (λ (k : Option TxStage). Option (TxState × Act)) [
       | None ↦ None
       | Some stage ↦ Some (tx_made (fetches (tx_ring s) s.memory) stage s)

@@ -1,6 +1,6 @@
 -- This project's own: how a turn and its ring stand together between two steps, why a turn ends, and that a whole turn
 -- keeps the order of positions.
-use Rattle.std.specs.Prelude.{◌≡◌, ℕ, ◌<◌, Bool, true, List, [], length, Option, None, Some}
+use Rattle.std.specs.Prelude.{◌≡◌, ℕ, ◌<◌, Bool, true, List, [], length, None, Some}
 use Rattle.tap_frame.specs.declared.name.Name.{Name}
 use Rattle.vhost_queue.specs.Positions.{IsIdle, IsInOrder}
 use Rattle.vhost_queue.specs.Queue.{Queue}

@@ -5,9 +5,9 @@ ghost use Rattle.vring_turns.specs.RxRun.{ReceiveTurnsDo};
 ghost use Rattle.vring_turns.specs.Publications.{TransmitTurnsPublish, ReceiveTurnsPublish};
 ghost use Rattle.vring_turns.specs.RxLine.{ReceiveTurnsPass};
 ghost use Rattle.vring_turns.specs.Standing.{TransmitTurnsBegin, TransmitTurnsStand, TransmitTurnsKeepOrder, ReceiveTurnsBegin, ReceiveTurnsStand, ReceiveTurnsKeepOrder};
+ghost use Rattle.vring_turns.specs.RxExamples.{TwoChainsTakeIt, OneChainIsShort, OneChainOverruns, BadTableStops, NoChainIsShort};
 
 use vhost_queue::positions_stay_in_order;
-ghost use Rattle.vring_turns.specs.RxExamples.{TwoChainsTakeIt, OneChainIsShort, OneChainOverruns, BadTableStops, NoChainIsShort};
 
 /// What a whole transmit turn did, whatever others write into the memory between its steps: each chain
 /// whose bytes were read is a packet of its bytes, and is published or done with length 0, in the order in

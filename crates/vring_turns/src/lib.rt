@@ -6,8 +6,11 @@
 //! what it found, a rewind, a publication. `specs/ReceiveImage.antt` and `specs/TransmitBytes.antt`
 //! have the copies into and out of chains. `specs/TxTurn.antt` and `specs/RxTurn.antt` put them in
 //! their order: where a turn stands, which step comes next, and when it ends. `specs/TxRun.antt` and
-//! `specs/RxRun.antt` say what a whole turn did. `specs/TxExamples.antt`, `specs/TxCases.antt`,
-//! `specs/RxExamples.antt`, `specs/RxGathering.antt` and `specs/RxPublishing.antt` are worked rings.
+//! `specs/RxRun.antt` say what a whole turn did, `specs/RxLine.antt` what it made of its queue of frames,
+//! `specs/Publications.antt` what it published, and `specs/Standing.antt` how turn and ring stand between
+//! two steps, why a turn ends, and that positions stay in order. `specs/TxExamples.antt`,
+//! `specs/TxCases.antt`, `specs/RxExamples.antt`, `specs/RxGathering.antt` and `specs/RxPublishing.antt`
+//! are worked rings.
 #![tactic(auto)]
 
 mod cases;
