@@ -64,9 +64,11 @@ way_front (after.PutBack end.NoMemory) t u ws a b h = tt
 
 -- a way that a fetch leads to puts nothing back as too short
 abbrev IsPlain : After → Type 0
-IsPlain way = (t : RxTurn) (ws : List FrameValue) → IsInFront (stage.NoticesOff way) t ws × IsInFront (stage_of way) t ws
+IsPlain way =
+    (t : RxTurn) (ws : List FrameValue) → IsInFront (stage.NoticesOff way) t ws × IsInFront (stage_of way) t ws
 
-gathers_plain : (a b : Bool) (had : ℕ) → IsPlain (if a then after.Copy else (if b then after.Discard had else after.Fetch))
+gathers_plain :
+    (a b : Bool) (had : ℕ) → IsPlain (if a then after.Copy else (if b then after.Discard had else after.Fetch))
 gathers_plain true b had t ws = (tt, tt)
 gathers_plain false true had t ws = (tt, tt)
 gathers_plain false false had t ws = (tt, tt)

@@ -176,7 +176,8 @@ tx_give s s' told (Some frame) e = room (nat_lt 0 s.host.room) e
     }
 
     room :
-        (b : Bool) → if◌then◌else◌ {A = Option (TxState × Act)} b (Some (x, act.Given frame.name)) None ≡ Some (s', told)
+        (b : Bool)
+        → if◌then◌else◌ {A = Option (TxState × Act)} b (Some (x, act.Given frame.name)) None ≡ Some (s', told)
         → TxDoes s (s', told)
     room true e =
         of_tx s s' told (x, act.Given frame.name) e

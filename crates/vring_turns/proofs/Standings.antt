@@ -103,7 +103,8 @@ calm :
     → Some x ≡ Some (s', told) → TxStands x.0.turn x.0.queue → x.0.queue.positions ≡ s.queue.positions
     → TxKeeps s.queue.positions s'.turn s'.queue
 calm s s' told x e stands same =
-    let order : StayInOrder s.queue.positions x.0.queue.positions = λ base start o. subst (IsInOrder base start) (sym same) o in
+    let order : StayInOrder s.queue.positions x.0.queue.positions =
+    λ base start o. subst (IsInOrder base start) (sym same) o in
     of_answer s s' told x e (record { stands = stands; order = order })
 
 -- what the ring is after a fetch
@@ -133,8 +134,8 @@ first_at :
     (joined f segments (tx_ring s)).queue
 first_at stage (Chain head) segments s none done e =
     let c : Gathered = record { head = head; segments = segments } in
-    let P : TxStage → Type 0 =
-    λ k. TxStandsAt k (record s.turn { chains = s.turn.chains ++ c ∷ []; stage = k }) (joined (Chain head) segments (tx_ring s)).queue in
+    let q = (joined (Chain head) segments (tx_ring s)).queue in
+    let P : TxStage → Type 0 = λ k. TxStandsAt k (record s.turn { chains = s.turn.chains ++ c ∷ []; stage = k }) q in
     subst P (some_is tx.Copy stage e) (one_more s.turn.chains c none)
 first_at stage Nothing segments s none done e =
     let P : TxStage → Type 0 = λ k. TxStandsAt k (record s.turn { stage = k }) s.queue in
@@ -144,7 +145,8 @@ first_at stage (Bad fault) segments s none done e =
     let P : TxStage → Type 0 = λ k. TxStandsAt k (record s.turn { stage = k }) q in
     let b = nat_eq (done_in s.queue) 0 in
     let st : TxStage = if b then tx.Ended (end.Stopped fault) else tx.Publish (Some (end.Stopped fault)) in
-    subst P (some_is st stage e) (tx_closing_stands b (end.Stopped fault) (record s.turn { stage = st }) q refl none refl)
+    subst P (some_is st stage e)
+    (tx_closing_stands b (end.Stopped fault) (record s.turn { stage = st }) q refl none refl)
 first_at stage Crowded segments s none done e = cc
 
 second_at :
@@ -154,8 +156,8 @@ second_at :
     (joined f segments (tx_ring s)).queue
 second_at stage (Chain head) segments s none done e =
     let c : Gathered = record { head = head; segments = segments } in
-    let P : TxStage → Type 0 =
-    λ k. TxStandsAt k (record s.turn { chains = s.turn.chains ++ c ∷ []; stage = k }) (joined (Chain head) segments (tx_ring s)).queue in
+    let q = (joined (Chain head) segments (tx_ring s)).queue in
+    let P : TxStage → Type 0 = λ k. TxStandsAt k (record s.turn { chains = s.turn.chains ++ c ∷ []; stage = k }) q in
     subst P (some_is (tx.NoticesOff None) stage e) (one_more s.turn.chains c none)
 second_at stage Nothing segments s none done e =
     let P : TxStage → Type 0 = λ k. TxStandsAt k (record s.turn { stage = k }) s.queue in
@@ -245,7 +247,8 @@ give_keeps s s' told (Some frame) gathered none e = room (nat_lt 0 s.host.room) 
     }
 
     room :
-        (b : Bool) → if◌then◌else◌ {A = Option (TxState × Act)} b (Some (x, act.Given frame.name)) None ≡ Some (s', told)
+        (b : Bool)
+        → if◌then◌else◌ {A = Option (TxState × Act)} b (Some (x, act.Given frame.name)) None ≡ Some (s', told)
         → TxKeeps s.queue.positions s'.turn s'.queue
     room true e = calm s s' told (x, act.Given frame.name) e (record {
       gathered = gathered;
@@ -342,7 +345,10 @@ run_keeps laws t t' q q' (m ∷ ms) h run =
     let one = step_keeps laws m.before m.after m.told m.before.turn.stage right.gathered right.stage run.2 in
     let rest = run_keeps laws m.after.turn t' m.after.queue q' ms one.stands run.3 in
     let R : Queue → Type 0 = λ k. TxKeeps k.positions t' q' in
-    subst R run.1 (record { stands = rest.stands; order = λ base start o. rest.order base start (one.order base start o) })
+    subst R run.1 (record {
+      stands = rest.stands;
+      order = λ base start o. rest.order base start (one.order base start o);
+    })
 
 pub transmit_stands :
     OrderLaws → (t t' : TxTurn) (q q' : Queue) (ms : List Moment) → TxStands t q → IsTxRun t q ms t' q' → TxStands t' q'
