@@ -13,7 +13,7 @@ use Rattle.vring_turns.specs.declared.stage.After.{After}
 use Rattle.vring_turns.specs.declared.stage.After.TheVariants as after
 use Rattle.vring_turns.specs.Ring.{Gathered, Ring, done_in, room_in, joined, all_rewound}
 use Rattle.vring_turns.specs.RxTurn.{quota, goes_on, rx_after_fetch, rx_after_second, rx_rewinds}
-use Rattle.vhost_rx.specs.Worker.{Worker, IsSteady, need_in, ring_of, holds_at, gathers_at, copies_at, stopped_at, publishes_at, counts_at, copies_after, few_done_at}
+use Rattle.vhost_rx.specs.Worker.{Worker, IsSteady, need_in, ring_of, holds_at, gathers_at, copies_at, stopped_at, publishes_at, counts_at, copies_after, few_done_at, fetch_stage}
 
 -- a stage at which a chain is fetched
 pub record Gathering (st : RxStage) : Type 0 where
@@ -292,8 +292,28 @@ pub settled_steady :
 settled_steady w w2 r r2 st st2 f segments second b one two way s e g e1 ew eb es e2 e3 e4 =
     rw (e3, e4, e2, es, eb, ew, e1) (fetched_steady w r f segments second (loose w r st s e g))
 
-pub fetch_gathers : Gathering stage.Fetch
-fetch_gathers = record { gathers = refl; holds = refl; stopped = refl; counts = refl; copies = refl; few = refl }
+pub fetch_gathers : (second : Bool) → Gathering (fetch_stage second)
+fetch_gathers false = record { gathers = refl; holds = refl; stopped = refl; counts = refl; copies = refl; few = refl }
+fetch_gathers true = record { gathers = refl; holds = refl; stopped = refl; counts = refl; copies = refl; few = refl }
 
-pub again_gathers : Gathering stage.FetchAgain
-again_gathers = record { gathers = refl; holds = refl; stopped = refl; counts = refl; copies = refl; few = refl }
+most_quota : (m : Bool) → quota m ≤ 1024
+most_quota true = omega arith
+most_quota false = omega arith
+
+few_behind :
+    (f : Fetched) (segments : List Segment) (w : Worker) (r : Reserved)
+    → Loose w r → length (joined f segments (ring_of w r.queue)).chains ≤ 1024
+few_behind (Chain head) segments w r l =
+    let n = length-append w.turn.chains (record { head = head; segments = segments } ∷ []) in
+    omega (arith, n, l.fewer, most_quota w.turn.mergeable)
+few_behind Nothing segments w r l = omega (arith, l.fewer, most_quota w.turn.mergeable)
+few_behind Crowded segments w r l = omega (arith, l.fewer, most_quota w.turn.mergeable)
+few_behind (Bad fault) segments w r l = omega (arith, l.fewer, most_quota w.turn.mergeable)
+
+-- the chains are no more than there may be
+pub few_found :
+    (w : Worker) (r : Reserved) (second : Bool) (f : Fetched) (segments : List Segment) (ring : Ring)
+    → IsSteady w r → w.turn.stage ≡ fetch_stage second → ring ≡ joined f segments (ring_of w r.queue)
+    → length ring.chains ≤ 1024
+few_found w r second f segments ring s e is =
+    rw is (few_behind f segments w r (loose w r (fetch_stage second) s e (fetch_gathers second)))

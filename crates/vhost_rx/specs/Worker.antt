@@ -9,7 +9,7 @@ use Rattle.tap_frame.specs.declared.name.Name.{Name}
 use Rattle.tap_frame.specs.Frame.{FrameValue}
 use Rattle.tap_ledger.specs.declared.act.Act.{Act}
 use Rattle.vring_turns.specs.declared.end.End.{End}
-use Rattle.vring_turns.specs.declared.end.End.TheVariants.{Stopped, Off, NoMemory}
+use Rattle.vring_turns.specs.declared.end.End.TheVariants.{Off, NoMemory}
 use Rattle.vring_turns.specs.declared.stage.RxStage.{RxStage}
 use Rattle.vring_turns.specs.declared.stage.RxStage.TheVariants as stage
 use Rattle.vring_turns.specs.declared.stage.After.TheVariants as after
@@ -18,6 +18,7 @@ use Rattle.vring_turns.specs.ReceiveImage.{need_of}
 use Rattle.vring_turns.specs.RxTurn.{RxTurn, RxState, quota, rx_at, rx_hands, rx_step, rx_without_event}
 use Rattle.vring_turns.specs.declared.step.Step.{Step}
 use Rattle.vring_turns.specs.Hands.{Hands, Moves}
+use Rattle.vring_turns.specs.Turn.{fault_of}
 use Rattle.tap_ledger.specs.declared.hand.Hand.{Hand}
 use Rattle.tap_ledger.specs.declared.hand.Hand.TheVariants as hand
 use Rattle.tap_ledger.specs.Queue.{QueueState}
@@ -68,11 +69,6 @@ copies_at stage.Copy = true
 copies_at (stage.NoticesOff after.Copy) = true
 copies_at other = false
 
--- the fault by which an end says that the ring is stopped
-abbrev pub fault_of : End → Option RingFault
-fault_of (Stopped fault) = Some fault
-fault_of end = None
-
 -- the fault that stopped the ring in this turn
 abbrev pub stopped_at : RxStage → Option RingFault
 stopped_at (stage.NoticesOff (after.PutBack end)) = fault_of end
@@ -80,6 +76,11 @@ stopped_at (stage.PutBack end) = fault_of end
 stopped_at (stage.Publish (Some end)) = fault_of end
 stopped_at (stage.Ended end) = fault_of end
 stopped_at other = None
+
+-- the stage of a first fetch, or of one more
+abbrev pub fetch_stage : Bool → RxStage
+fetch_stage false = stage.Fetch
+fetch_stage true = stage.FetchAgain
 
 -- something is there to be published
 abbrev pub publishes_at : RxStage → Bool

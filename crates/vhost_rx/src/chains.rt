@@ -15,6 +15,7 @@ use std::alloc::{AllocError, Global};
 use std::marker::Model;
 use vhost_queue::Vq;
 use vring_split::Layout;
+use vring_turns::lie_in;
 use vring_walk::{Fetched, Segment, Segments, chains_are_usable, fetch};
 
 /// How many chains one frame may go into.
@@ -78,15 +79,6 @@ fn chain_behind(head: u16, segments: &[Segment], before: usize) -> Chain
         segments: new.len() as u16,
         bytes: bytes_of(new),
     }
-}
-
-// Whether segments lie in a memory.
-fn segments_lie_in(mem: &Memory, segments: &[Segment]) -> bool
-    ensures { IsTrue result ↔ All (λ s. IsTrue (covers mem.now.regions s.addr s.len)) segments.now }
-{
-    segments
-        .iter()
-        .all(|segment| mem.covers(segment.addr, u64::from(segment.len)))
 }
 
 impl Chains {
@@ -174,7 +166,7 @@ impl Chains {
     pub fn lie_in(&self, mem: &Memory) -> bool
         ensures { IsTrue result ↔ LieIn (covers mem.now.regions) self.now }
     {
-        segments_lie_in(mem, self.room.list())
+        lie_in(mem, self.room.list())
     }
 }
 

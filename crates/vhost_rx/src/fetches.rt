@@ -5,14 +5,14 @@ ghost use Rattle.vhost_queue.specs.Queue.{IsGood};
 ghost use Rattle.vring_turns.specs.Ring.{LieIn, noticed, found, joined, all_rewound};
 ghost use Rattle.vring_turns.specs.RxTurn.{goes_on, stage_of, gathers, rx_fetches, rx_made, rx_ring, rx_next, rx_at, quota};
 ghost use Rattle.tap_ledger.specs.declared.hand.Hand.{Hand as Handed};
-ghost use Rattle.vhost_rx.specs.Worker.{IsSteady, Changes, ring_of, need_in};
+ghost use Rattle.vhost_rx.specs.Worker.{IsSteady, Changes, ring_of, need_in, fetch_stage};
 
-use crate::ways::{after_fetch, after_second, rewinds, stage_of, told_of};
+use crate::ways::{after_by, rewinds, stage_of};
 use crate::worker::RxWorker;
 use guest_mem::Memory;
 use tap_ledger::Act;
 use vhost_queue::Vq;
-use vring_turns::{After, End, RxStage};
+use vring_turns::{After, End, RxStage, told_of};
 use vring_walk::Fetched;
 
 impl RxWorker {
@@ -109,33 +109,13 @@ impl RxWorker {
         self.stage = stage;
     }
 
-    // Looks for a chain, and turns notices on where there is none.
-    pub(crate) fn fetch(&mut self, vq: &mut Vq, mem: &Memory) -> Act
+    // Looks for a chain, for the first time or, after notices were turned on, once more.
+    pub(crate) fn fetch(&mut self, vq: &mut Vq, mem: &Memory, second: bool) -> Act
         requires good { IsGood vq.old.queue mem.now }
         requires steady { IsSteady self.old vq.old }
-        requires stage { self.old.turn.stage ≡ RxStage.Fetch }
+        requires stage { self.old.turn.stage ≡ fetch_stage second }
         requires lies { LieIn (covers mem.now.regions) self.old.turn.chains }
-        ensures step { Changes (λ s. Some (rx_fetches false (need_in self.old.turn) s))
-            self.old vq.old.queue mem.now self.new vq.new.queue mem.now result }
-        ensures steady { IsSteady self.new vq.new }
-        ensures lies { LieIn (covers mem.now.regions) self.new.turn.chains }
-        ensures layout { vq.new.queue.layout ≡ vq.old.queue.layout }
-    {
-        let position = vq.position();
-        let need = self.need();
-        let found = self.find(vq, mem);
-        let way = self.way(need, found);
-        self.settle(vq, rewinds(false, way), after_fetch(way));
-        told_of(position, found)
-    }
-
-    // Looks once more, after notices were turned on.
-    pub(crate) fn fetch_again(&mut self, vq: &mut Vq, mem: &Memory) -> Act
-        requires good { IsGood vq.old.queue mem.now }
-        requires steady { IsSteady self.old vq.old }
-        requires stage { self.old.turn.stage ≡ RxStage.FetchAgain }
-        requires lies { LieIn (covers mem.now.regions) self.old.turn.chains }
-        ensures step { Changes (λ s. Some (rx_fetches true (need_in self.old.turn) s))
+        ensures step { Changes (λ s. Some (rx_fetches second (need_in self.old.turn) s))
             self.old vq.old.queue mem.now self.new vq.new.queue mem.now result }
         ensures steady { IsSteady self.new vq.new }
         ensures lies { LieIn (covers mem.now.regions) self.new.turn.chains }
@@ -146,7 +126,8 @@ impl RxWorker {
         let had = self.chains.had();
         let found = self.find(vq, mem);
         let way = self.way(need, found);
-        self.settle(vq, rewinds(true, way), after_second(need, had, way));
+        let stage = after_by(second, need, had, way);
+        self.settle(vq, rewinds(second, way), stage);
         told_of(position, found)
     }
 

@@ -1,6 +1,6 @@
 //! What the worker's stage says.
 ghost use Rattle.std.specs.Prelude.{◌≡◌};
-ghost use Rattle.vhost_rx.specs.Worker.{holds_at, gathers_at, copies_at, fault_of, stopped_at, publishes_at, counts_at, copies_after, few_done_at};
+ghost use Rattle.vhost_rx.specs.Worker.{holds_at, gathers_at, copies_at, stopped_at, publishes_at, counts_at, copies_after, few_done_at};
 
 use vring_split::RingFault;
 use vring_turns::{After, End, RxStage};
@@ -40,16 +40,6 @@ pub fn copies_at(stage: RxStage) -> bool
     )
 }
 
-// The fault by which an end says that the ring is stopped.
-fn fault_of(end: End) -> Option<RingFault>
-    ensures { result ≡ fault_of end }
-{
-    match end {
-        End::Stopped(fault) => Some(fault),
-        _ => None,
-    }
-}
-
 /// The fault that stopped the ring in this turn.
 pub fn stopped_at(stage: RxStage) -> Option<RingFault>
     ensures { result ≡ stopped_at stage }
@@ -57,9 +47,9 @@ pub fn stopped_at(stage: RxStage) -> Option<RingFault>
     match stage {
         RxStage::NoticesOff {
             after: After::PutBack(end),
-        } => fault_of(end),
+        } => end.fault(),
         RxStage::PutBack { end } | RxStage::Publish { end: Some(end) } | RxStage::Ended(end) =>
-            fault_of(end),
+            end.fault(),
         _ => None,
     }
 }

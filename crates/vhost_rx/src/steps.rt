@@ -14,16 +14,16 @@ use crate::worker::{RxStep, RxWorker};
 use guest_mem::Memory;
 use tap_ledger::{Act, Cause, Fate, FrameQueue, Hand};
 use vhost_queue::Vq;
-use vring_turns::{End, RxStage};
+use vring_turns::{End, RxStage, is_enough, is_published};
 
 impl RxWorker {
     // A packet is behind it: it did enough, or it publishes, or it goes on.
     fn after_packet(&self, vq: &Vq) -> RxStage
         ensures { result ≡ rx_after_packet self.now.turn vq.now.queue }
     {
-        if self.packets >= 256 || self.bytes >= 524_288 || self.handled >= 1024 {
+        if is_enough(self.packets, self.bytes, self.handled) {
             closing(vq, End::Again)
-        } else if vq.unpublished() >= 64 {
+        } else if is_published(vq.unpublished()) {
             RxStage::Publish { end: None }
         } else {
             RxStage::Hand
@@ -193,9 +193,9 @@ impl RxWorker {
         match self.stage {
             RxStage::Begin => Ok(self.notices_first(vq, mem)),
             RxStage::Hand => self.hand(vq, q),
-            RxStage::Fetch => Ok(self.fetch(vq, mem)),
+            RxStage::Fetch => Ok(self.fetch(vq, mem, false)),
             RxStage::NoticesOn => Ok(self.notices_on(vq, mem)),
-            RxStage::FetchAgain => Ok(self.fetch_again(vq, mem)),
+            RxStage::FetchAgain => Ok(self.fetch(vq, mem, true)),
             RxStage::NoticesOff { after } => Ok(self.notices_off(vq, mem, after)),
             RxStage::Copy => Ok(self.copy(vq, mem)),
             RxStage::Out => {

@@ -1,26 +1,10 @@
 //! How a receive turn goes on after a fetch.
-ghost use Rattle.std.specs.Prelude.{◌≡◌, List};
-ghost use Rattle.vring_turns.specs.Ring.{Gathered, room_in, told_of};
+ghost use Rattle.std.specs.Prelude.{◌≡◌, List, if◌then◌else◌};
+ghost use Rattle.vring_turns.specs.Ring.{Gathered, room_in};
 ghost use Rattle.vring_turns.specs.RxTurn.{rx_closing, stage_of, gives_up, rx_after_fetch, rx_after_second, rx_rewinds};
 
-use tap_ledger::Act;
 use vhost_queue::Vq;
 use vring_turns::{After, End, RxStage};
-use vring_walk::Fetched;
-
-/// What a fetch at a position tells.
-pub fn told_of(position: u16, found: Fetched) -> Act
-    ensures { result ≡ told_of position found }
-{
-    match found {
-        Fetched::Chain { head } => Act::Fetch { position, head },
-        Fetched::Nothing => Act::Nothing,
-        Fetched::Crowded => Act::Crowded,
-        Fetched::Bad(fault) => Act::Halt {
-            fault: fault.number(),
-        },
-    }
-}
 
 /// The turn ends: after a publication, where anything is done.
 pub fn closing(vq: &Vq, end: End) -> RxStage
@@ -62,8 +46,8 @@ pub fn rewinds(second: bool, way: Option<After>) -> bool
     }
 }
 
-/// Where the turn stands after the first fetch.
-pub fn after_fetch(way: Option<After>) -> RxStage
+// Where the turn stands after the first fetch.
+fn after_fetch(way: Option<After>) -> RxStage
     ensures { result ≡ rx_after_fetch way }
 {
     match way {
@@ -72,8 +56,8 @@ pub fn after_fetch(way: Option<After>) -> RxStage
     }
 }
 
-/// Where it stands after the second fetch, for a frame that needs so many bytes and chains that have so many.
-pub fn after_second(need: u32, had: u64, way: Option<After>) -> RxStage
+// Where it stands after the second fetch, for a frame that needs so many bytes and chains that have so many.
+fn after_second(need: u32, had: u64, way: Option<After>) -> RxStage
     ensures { (chains : List Gathered) → room_in chains ≡ had → result ≡ rx_after_second need chains way }
 {
     match way {
@@ -81,5 +65,18 @@ pub fn after_second(need: u32, had: u64, way: Option<After>) -> RxStage
         None => RxStage::PutBack {
             end: End::Short { need, had },
         },
+    }
+}
+
+/// Where the turn stands after the first or the second fetch, for a frame that needs so many bytes and chains that have
+/// so many.
+pub fn after_by(second: bool, need: u32, had: u64, way: Option<After>) -> RxStage
+    ensures { (chains : List Gathered) → room_in chains ≡ had
+        → result ≡ (if second then rx_after_second need chains way else rx_after_fetch way) }
+{
+    if second {
+        after_second(need, had, way)
+    } else {
+        after_fetch(way)
     }
 }

@@ -6,12 +6,11 @@ use Rattle.vring_split.specs.declared.layout.Layout.{Layout}
 use Rattle.vhost_queue.specs.Queue.{Queue, Reserved, room_of, most_done}
 use Rattle.tap_ledger.specs.declared.act.Act.{Act}
 use Rattle.tap_ledger.specs.Host.{HostState}
-use Rattle.vring_turns.specs.declared.end.End.{End}
-use Rattle.vring_turns.specs.declared.end.End.TheVariants.{Stopped, NoMemory}
+use Rattle.vring_turns.specs.declared.end.End.TheVariants.{NoMemory}
 use Rattle.vring_turns.specs.declared.stage.TxStage.{TxStage}
 use Rattle.vring_turns.specs.declared.stage.TxStage.TheVariants.{NoticesOff, Copy, Give, Publish, Ended}
 use Rattle.vring_turns.specs.Ring.{Ring, done_in}
-use Rattle.vring_turns.specs.Turn.{is_enough}
+use Rattle.vring_turns.specs.Turn.{is_enough, fault_of}
 use Rattle.vring_turns.specs.TxTurn.{TxTurn, TxState, at_stage}
 
 -- a worker: its turn, and the layout and the position that its queue has
@@ -40,11 +39,6 @@ chains_at stage = 0
 abbrev pub holds_at : TxStage → Bool
 holds_at Give = true
 holds_at stage = false
-
--- the fault by which an end says that the ring is stopped
-abbrev pub fault_of : End → Option RingFault
-fault_of (Stopped fault) = Some fault
-fault_of end = None
 
 -- the fault that stopped the ring in this turn
 abbrev pub stopped_at : TxStage → Option RingFault

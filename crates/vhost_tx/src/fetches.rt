@@ -2,7 +2,7 @@
 ghost use Rattle.std.specs.Prelude.{◌≡◌, ◌≢◌, ◌<◌, ◌||◌, [], Some, None};
 ghost use Rattle.guest_mem.specs.Memory.{covers};
 ghost use Rattle.vhost_queue.specs.Queue.{IsGood};
-ghost use Rattle.vring_turns.specs.Ring.{LieIn, noticed, found, joined, told_of};
+ghost use Rattle.vring_turns.specs.Ring.{LieIn, noticed, found, joined};
 ghost use Rattle.vring_turns.specs.TxTurn.{tx_closing, tx_after_fetch, tx_after_second, tx_after_notices, tx_fetches, tx_made, tx_ring, tx_next, at_stage};
 ghost use Rattle.vhost_tx.specs.Worker.{IsSteady, Changes, ring_of};
 
@@ -11,22 +11,8 @@ use guest_mem::Memory;
 use tap_ledger::Act;
 use vhost_queue::Vq;
 use vring_split::RingFault;
-use vring_turns::{End, TxStage};
+use vring_turns::{End, TxStage, told_of};
 use vring_walk::{Fetched, chains_are_usable, fetch};
-
-/// What a fetch at a position tells.
-pub fn told_of(position: u16, found: Fetched) -> Act
-    ensures { result ≡ told_of position found }
-{
-    match found {
-        Fetched::Chain { head } => Act::Fetch { position, head },
-        Fetched::Nothing => Act::Nothing,
-        Fetched::Crowded => Act::Crowded,
-        Fetched::Bad(fault) => Act::Halt {
-            fault: fault.number(),
-        },
-    }
-}
 
 /// The turn ends: after a publication, where anything is done.
 pub fn closing(vq: &Vq, end: End) -> TxStage

@@ -24,15 +24,6 @@ fn read_at(mem: &Memory, addr: u64, room: &mut [u8], at: usize, len: usize)
     }
 }
 
-/// Whether segments lie in a memory.
-pub fn lie_in(mem: &Memory, segments: &[Segment]) -> bool
-    ensures { IsTrue result ↔ All (λ s. IsTrue (covers mem.now.regions s.addr s.len)) segments.now }
-{
-    segments
-        .iter()
-        .all(|segment| mem.covers(segment.addr, u64::from(segment.len)))
-}
-
 /// Fills the room with the first bytes of segments, and tells how many there are.
 pub fn gather(mem: &Memory, segments: &[Segment], room: &mut [u8]) -> usize
     requires { All (λ s. IsTrue (covers mem.now.regions s.addr s.len)) segments.now }

@@ -1,6 +1,6 @@
 //! What the worker's stage says.
 ghost use Rattle.std.specs.Prelude.{◌≡◌};
-ghost use Rattle.vhost_tx.specs.Worker.{chains_at, holds_at, fault_of, stopped_at, publishes_at, goes_on_at};
+ghost use Rattle.vhost_tx.specs.Worker.{chains_at, holds_at, stopped_at, publishes_at, goes_on_at};
 
 use vring_split::RingFault;
 use vring_turns::{End, TxStage};
@@ -22,23 +22,13 @@ pub fn holds_at(stage: TxStage) -> bool
     matches!(stage, TxStage::Give)
 }
 
-// The fault by which an end says that the ring is stopped.
-fn fault_of(end: End) -> Option<RingFault>
-    ensures { result ≡ fault_of end }
-{
-    match end {
-        End::Stopped(fault) => Some(fault),
-        _ => None,
-    }
-}
-
 /// The fault that stopped the ring in this turn.
 pub fn stopped_at(stage: TxStage) -> Option<RingFault>
     ensures { result ≡ stopped_at stage }
 {
     match stage {
         TxStage::NoticesOff { fault } => fault,
-        TxStage::Publish { end: Some(end) } | TxStage::Ended(end) => fault_of(end),
+        TxStage::Publish { end: Some(end) } | TxStage::Ended(end) => end.fault(),
         _ => None,
     }
 }

@@ -16,7 +16,7 @@ use guest_mem::Memory;
 use tap_frame::{Frame, Name};
 use tap_ledger::{Act, HostIn};
 use vhost_queue::Vq;
-use vring_turns::{End, TxStage};
+use vring_turns::{End, TxStage, is_published};
 
 // What was read of a chain: its head, for how many bytes it counts, and what its bytes are.
 struct Read {
@@ -25,9 +25,6 @@ struct Read {
     judged: Judged,
 }
 
-/// How many chains that are done are published between two packets.
-const PUBLISHES_AT: u16 = 64;
-
 impl TxWorker {
     // A packet is behind it: it did enough, or it publishes, or it goes on.
     fn after_packet(&self, vq: &Vq) -> TxStage
@@ -35,7 +32,7 @@ impl TxWorker {
     {
         if self.is_enough() {
             closing(vq, End::Again)
-        } else if vq.unpublished() >= PUBLISHES_AT {
+        } else if is_published(vq.unpublished()) {
             TxStage::Publish { end: None }
         } else {
             TxStage::Fetch

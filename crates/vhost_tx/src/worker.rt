@@ -8,7 +8,6 @@ ghost use Rattle.vhost_queue.specs.Queue.{turn_places};
 ghost use Rattle.vring_turns.specs.TransmitBytes.{is_header_size};
 ghost use Rattle.vring_turns.specs.TxTurn.{tx_begun, tx_report};
 
-use crate::gather::lie_in;
 use crate::stages::{chains_at, goes_on_at, holds_at, publishes_at, stopped_at};
 use guest_mem::Memory;
 use std::alloc::{AllocError, Global};
@@ -16,7 +15,7 @@ use std::marker::Model;
 use tap_frame::{Frame, Name};
 use vhost_queue::Vq;
 use vring_split::Layout;
-use vring_turns::{End, Step, TurnEnd, TxStage};
+use vring_turns::{End, Step, TurnEnd, TxStage, is_enough, lie_in};
 use vring_walk::Segments;
 
 /// What a step of a transmit worker answers.
@@ -24,13 +23,6 @@ pub type TxStep = Step;
 
 /// How many bytes of a chain are looked at behind its header: one more than the longest frame has.
 const MOST: usize = 65_536;
-
-/// How many packets, bytes and chains one turn handles.
-const MOST_PACKETS: u32 = 256;
-
-const MOST_BYTES: u64 = 524_288;
-
-const MOST_CHAINS: u32 = 1024;
 
 /// A worker that makes one transmit turn.
 pub struct TxWorker {
@@ -65,7 +57,7 @@ impl Model for TxWorker {
 
 impl TxWorker {
     ghost use Rattle.vhost_tx.specs.Worker.{Fits, IsSameQueue, HasNumbers, is_over};
-    ghost use Rattle.vring_turns.specs.Turn.{is_enough};
+    ghost use Rattle.vring_turns.specs.Turn.{is_enough as enough};
 
     /// A worker for one turn on a queue, whose frames have a header of `hdr` bytes, 10 or 12, in front of
     /// them. Its first frame gets the name, with part 0. It reserves what the turn needs.
@@ -158,9 +150,9 @@ impl TxWorker {
 
     // Whether it did as much as one turn does.
     pub(crate) fn is_enough(&self) -> bool
-        ensures { result ≡ is_enough self.now.turn.packets self.now.turn.bytes self.now.turn.packets }
+        ensures { result ≡ enough self.now.turn.packets self.now.turn.bytes self.now.turn.packets }
     {
-        self.packets >= MOST_PACKETS || self.bytes >= MOST_BYTES || self.packets >= MOST_CHAINS
+        is_enough(self.packets, self.bytes, self.packets)
     }
 
     /// What the turn did so far, with an end.

@@ -1,3 +1,9 @@
 mod TxRuns
 mod RxRuns
 mod TxFrames
+mod Publishes
+mod LineStages
+mod RxLines
+mod Standings
+mod RxFetches
+mod RxStandings

@@ -149,7 +149,7 @@ publish_did s s' told end false made e c =
     made_did s s' told made (elim end [ None ↦ stage.Hand | Some e ↦ stage.Ended e ]) e c
 
 -- what a publication and a copy make, where they make something
-abbrev published_made : RxState → Made
+abbrev pub published_made : RxState → Made
 published_made s = record {
   ring = record (rx_ring s) { queue = with_published s.queue };
   memory = published_in s.queue s.memory;
@@ -157,7 +157,7 @@ published_made s = record {
       (wants_notice s.queue.layout s.queue.used (next_used s.queue) (published_in s.queue s.memory));
 }
 
-abbrev copied_made : FrameValue → RxState → Made
+abbrev pub copied_made : FrameValue → RxState → Made
 copied_made frame s = record {
   ring = moved (with_all_done (shares s.turn.chains (need_of s.turn.header frame))) [] (rx_ring s);
   memory = with_image s.turn.header frame s.turn.chains s.memory;

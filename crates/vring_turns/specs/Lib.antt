@@ -13,3 +13,6 @@ pub mod RxExamples
 pub mod RxGathering
 pub mod RxPublishing
 pub mod TxCases
+pub mod RxLine
+pub mod Publications
+pub mod Standing

@@ -1,6 +1,9 @@
 -- This project's own, after Linux's vhost_net: how much one turn does, and what it reports.
-use Rattle.std.specs.Prelude.{ℕ, Bool, ◌||◌, nat_le, Option, Some}
+use Rattle.std.specs.Prelude.{ℕ, Bool, ◌||◌, nat_le, Option, None, Some}
+use Rattle.vring_split.specs.declared.fault.RingFault.{RingFault}
 use Rattle.tap_ledger.specs.declared.act.Act.{Act}
+use Rattle.vring_turns.specs.declared.end.End.{End}
+use Rattle.vring_turns.specs.declared.end.End.TheVariants.{Stopped}
 use Rattle.vring_turns.specs.declared.step.Step.{Step}
 use Rattle.vring_turns.specs.declared.step.Step.TheVariants.{More, Ended}
 
@@ -11,6 +14,11 @@ is_enough packets bytes chains = nat_le 256 packets || nat_le 524288 bytes || na
 -- how many chains that are done are published at once, between two packets
 abbrev pub publishes_at : ℕ
 publishes_at = 64
+
+-- the fault by which an end says that the ring is stopped
+abbrev pub fault_of : End → Option RingFault
+fault_of (Stopped fault) = Some fault
+fault_of end = None
 
 -- the event that a step made, if it made one
 abbrev pub event_of : Step → Option Act

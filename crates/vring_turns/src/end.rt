@@ -1,4 +1,7 @@
 //! How a turn ends.
+ghost use Rattle.std.specs.Prelude.{◌≡◌};
+ghost use Rattle.vring_turns.specs.Turn.{fault_of};
+
 use vring_split::RingFault;
 
 /// Why a turn is over.
@@ -21,6 +24,18 @@ pub enum End {
     Off,
     /// Memory ran out.
     NoMemory,
+}
+
+impl End {
+    /// The fault that stopped the ring, if one did.
+    pub fn fault(self) -> Option<RingFault>
+        ensures { result ≡ fault_of self }
+    {
+        match self {
+            End::Stopped(fault) => Some(fault),
+            _ => None,
+        }
+    }
 }
 
 /// What a turn did, and how it ended.

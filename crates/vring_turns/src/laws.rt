@@ -2,7 +2,12 @@
 ghost use Rattle.vring_turns.specs.TxExamples.{OneIsSent, NoneIsSent, HaltPublishes, ShortIsRefused, ManyTakeTwoTurns};
 ghost use Rattle.vring_turns.specs.TxRun.{TransmitTurnsDo, TransmitTurnsPass};
 ghost use Rattle.vring_turns.specs.RxRun.{ReceiveTurnsDo};
+ghost use Rattle.vring_turns.specs.Publications.{TransmitTurnsPublish, ReceiveTurnsPublish};
+ghost use Rattle.vring_turns.specs.RxLine.{ReceiveTurnsPass};
+ghost use Rattle.vring_turns.specs.Standing.{TransmitTurnsBegin, TransmitTurnsStand, TransmitTurnsKeepOrder, ReceiveTurnsBegin, ReceiveTurnsStand, ReceiveTurnsKeepOrder};
 ghost use Rattle.vring_turns.specs.RxExamples.{TwoChainsTakeIt, OneChainIsShort, OneChainOverruns, BadTableStops, NoChainIsShort};
+
+use vhost_queue::positions_stay_in_order;
 
 /// What a whole transmit turn did, whatever others write into the memory between its steps: each chain
 /// whose bytes were read is a packet of its bytes, and is published or done with length 0, in the order in
@@ -11,14 +16,40 @@ ghost use Rattle.vring_turns.specs.RxExamples.{TwoChainsTakeIt, OneChainIsShort,
 pub fn transmit_turns()
     ensures chains { TransmitTurnsDo }
     ensures frames { TransmitTurnsPass }
+    ensures publications { TransmitTurnsPublish }
 {}
 
 /// What a whole receive turn did, whatever others write into the memory between its steps: packets and
 /// bytes are those of the frames that left the line; the chains into which frames were copied are published
 /// or done with the bytes that they got, in their order, behind all that was before; and no other chain is.
 pub fn receive_turns()
-    ensures { ReceiveTurnsDo }
+    ensures chains { ReceiveTurnsDo }
+    ensures publications { ReceiveTurnsPublish }
+    ensures line { ReceiveTurnsPass }
 {}
+
+/// How a transmit turn and its ring stand between two steps, whatever others write into the memory meanwhile:
+/// one chain is gathered from its fetch to its copy, the turn ends for the cause that it tells, nothing is
+/// served and not published then, and the k-th chain of a list of positions has the k-th position.
+pub fn transmit_standing()
+    ensures begins { TransmitTurnsBegin }
+    ensures stands { TransmitTurnsStand }
+    ensures order { TransmitTurnsKeepOrder }
+{
+    positions_stay_in_order();
+}
+
+/// How a receive turn and its ring stand between two steps, whatever others write into the memory meanwhile:
+/// chains are gathered while they are too short for the frame in hand and fewer than it may go into, the turn
+/// ends for the cause that it tells, nothing is served and not published then, and the k-th chain of a list
+/// of positions has the k-th position.
+pub fn receive_standing()
+    ensures begins { ReceiveTurnsBegin }
+    ensures stands { ReceiveTurnsStand }
+    ensures order { ReceiveTurnsKeepOrder }
+{
+    positions_stay_in_order();
+}
 
 /// Receive turns on worked rings.
 pub fn receive_examples()

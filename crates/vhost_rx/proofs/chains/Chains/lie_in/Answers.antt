@@ -11,8 +11,8 @@ returns c =
     let Q : List Gathered → Type 0 = λ cs. LieIn (covers c.args.mem.now.regions) cs in (
       λ t. subst Q c.self.view_is
           (LieIn-split_into (covers c.args.mem.now.regions) c.self.inside.kept.items c.self.inside.room
-          (subst P c.list.ensures.list (c.segments_lie_in.ensures.0 t))),
-      λ l. c.segments_lie_in.ensures.1
+          (subst P c.list.ensures.list (c.lie_in.ensures.0 t))),
+      λ l. c.lie_in.ensures.1
           (subst P (sym c.list.ensures.list)
           (all_kept (covers c.args.mem.now.regions) c.self.inside.kept.items c.self.inside.room
           c.self.invariant.split (subst Q (sym c.self.view_is) l))),
