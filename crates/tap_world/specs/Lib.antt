@@ -14,6 +14,8 @@ pub mod StepControl
 pub mod StepBackend
 pub mod StepTurns
 pub mod StepTransmits
+pub mod Grammar
+pub mod Commands
 pub mod Scripts
 pub mod Step
 pub mod Runs

@@ -1,0 +1,12 @@
+mod Kit
+mod Forms
+mod Left
+mod Rows
+mod Follows
+mod Steps
+mod Firsts
+mod Doings
+mod Ways
+mod Taken
+mod Scripts
+mod Whole

@@ -1,0 +1,24 @@
+//! What is true of every run of a scenario: laws, each a function that does nothing. The statements stand in `specs/`.
+//!
+//! `specs/Laws.antt` says that a run's events are the scripts of its commands, and that nothing is left undone. The
+//! proofs begin with `proofs/Kit.antt` and `proofs/Taken.antt`, which take a step apart.
+#![tactic(auto)]
+
+ghost use Rattle.tap_sound.specs.Laws.{AllIsDone, EventsAreScripts, EventsBeginScripts, OrderIsRun};
+
+/// In a run the events of each actor are the scripts of its commands, one after another; on the way to its end the last
+/// of them may be the beginning of one.
+pub fn events_are_scripts()
+    ensures whole { EventsAreScripts }
+    ensures so_far { EventsBeginScripts }
+{}
+
+/// The run that a seed picks is a run.
+pub fn order_is_run()
+    ensures { OrderIsRun }
+{}
+
+/// After a run no actor has a command left, and none is under way.
+pub fn all_is_done()
+    ensures { AllIsDone }
+{}
