@@ -65,11 +65,6 @@ calling w actor seen c h =
     where_then P (control.vhost_of c) _ (λ vhost e1. where_then P (at w.vhosts vhost) _ (λ v e2. where_then P (at w.guests v.guest) _
     (λ g e3. where_then P (control.call_of c v g.memory) _ (λ x e4. where_only P _ (control.call_effect w seen vhost v.guest x) (λ b. h)))))
 
-poking : (w : World) (seen guest addr : ℕ) (bytes : List ℕ) (m : Contents) (o : Option ℕ)
-    → Follows Begun (command.Poke guest addr bytes) event.Poke (control.poked w seen guest addr bytes m o)
-poking w seen guest addr bytes m None = (refl, refl)
-poking w seen guest addr bytes m (Some bad) = (refl, refl)
-
 finding_off : (w : World) (seen : ℕ) (c : Command) → HasForm (form_of c) (event.Owner ∷ []) → AllFollow Begun c event.Owner (rx_turns.finds_off w seen Begun c)
 finding_off w seen c h =
     let P : Effect → Type 0 = Follows Begun c event.Owner in
@@ -105,7 +100,7 @@ begun_follows s w actor seen script n (command.TxTurn vhost) k e =
     (finding_off w seen (command.TxTurn vhost) (inl (refl, refl))) (tx_first w actor n seen vhost))
 begun_follows s w actor seen script n (command.Poke guest addr bytes) k e =
     at_kind (RowFollows s w actor seen script n Begun (command.Poke guest addr bytes)) k event.Poke e
-    (where_then (Follows Begun (command.Poke guest addr bytes) event.Poke) (at w.guests guest) _ (λ g e1. poking w seen guest addr bytes g.memory _))
+    (where_then (Follows Begun (command.Poke guest addr bytes) event.Poke) (at w.guests guest) _ (λ g e1. (refl, refl)))
 begun_follows s w actor seen script n (command.Peek guest addr len) k e =
     at_kind (RowFollows s w actor seen script n Begun (command.Peek guest addr len)) k event.Peek e
     (where_then (Follows Begun (command.Peek guest addr len) event.Peek) (at w.guests guest) _ (λ g e1. (refl, refl)))

@@ -1,12 +1,8 @@
 -- Forms of lists of events, taken apart and put together.
 use Rattle.std.proofs.Common.{◌≡◌, ◌⊎◌, ℕ, zero, suc, List, [], ◌∷◌, Bool, true, false, inl, inr, ⊎_elim}
 use Rattle.tap_world.specs.declared.event.EventKind.{EventKind}
-use Rattle.tap_world.specs.Grammar.{Begins, Grammar, HasForm, Some_of, Spells, Times}
+use Rattle.tap_world.specs.Grammar.{Begins, Grammar, Lists, Some_of, Spells, Times}
 use Rattle.tap_world.specs.Grammar.Grammar.{Many, Nothing, One, ◌⨾◌, ◌or◌}
-
--- sets of lists of events
-abbrev pub Lists : Type 1
-Lists = List EventKind → Type 0
 
 -- ---- a rest may grow
 

@@ -18,12 +18,12 @@ use Rattle.scen_words.specs.declared.command.Command.TheVariants as command
 use Rattle.std.specs.Prelude.{if◌then◌else◌, nat_le, ◌==◌}
 use Rattle.tap_world.specs.declared.event.EventKind.{EventKind}
 use Rattle.tap_world.specs.declared.event.EventKind.TheVariants.{Copy, Drive, Fetch, Hand, HostIn, Look, Notices, Out, Owner, Publish, PublishUsed, PutBack, Ready, Reopen, Resize, Shut}
-use Rattle.tap_world.specs.Grammar.{Grammar, HasForm, Perhaps, Some_of, Spells, Times}
+use Rattle.tap_world.specs.Grammar.{Grammar, HasForm, Lists, Perhaps, Some_of, Spells, Times}
 use Rattle.tap_world.specs.Grammar.Grammar.{Many, Nothing, One, ◌⨾◌, ◌or◌}
 use Rattle.tap_world.specs.Commands.{attach, backing, chain, chains, detach, finds, finds_nothing, form_of, frame, frames, hosting, published, purge, route, setting, shrink, taking}
 use Rattle.tap_world.specs.World.{Doing}
 use Rattle.tap_world.specs.World.Doing.{Backed, Backs, Begun, Changes, Disowned, Given, Hosts, Learns, Opened, Opens, Owns, Placed, Purges, Reads, Receives, Released, Resizes, Routed, Shrinks, Teaches, Transmits, Unbacked, Withdrawn, Withdraws}
-use Rattle.tap_sound.proofs.Forms.{Lists, distributes, pulls, some_many, weaken}
+use Rattle.tap_sound.proofs.Forms.{distributes, pulls, some_many, weaken}
 
 -- ---- a receive turn
 

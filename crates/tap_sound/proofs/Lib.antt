@@ -10,3 +10,9 @@ mod Ways
 mod Taken
 mod Scripts
 mod Whole
+mod Entries
+mod Files
+mod Kept
+mod Tame
+mod TameRows
+mod Used

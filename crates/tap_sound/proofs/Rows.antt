@@ -31,11 +31,11 @@ use Rattle.vring_turns.specs.TxTurn as tt_
 use Rattle.vring_turns.specs.TxTurn.{TxState, TxTurn}
 use Rattle.tap_world.specs.declared.event.EventKind.{EventKind}
 use Rattle.tap_world.specs.declared.event.EventKind.TheVariants as event
-use Rattle.tap_world.specs.Grammar.{Grammar, HasForm, Perhaps, Some_of, Spells, Times}
+use Rattle.tap_world.specs.Grammar.{Grammar, HasForm, Lists, Perhaps, Some_of, Spells, Times}
 use Rattle.tap_world.specs.Grammar.Grammar.{Many, Nothing, One, ◌⨾◌, ◌or◌}
 use Rattle.tap_world.specs.Commands.{published}
 use Rattle.tap_world.specs.Then.{◌>>=◌, only_if}
-use Rattle.tap_sound.proofs.Forms.{Lists, weaken}
+use Rattle.tap_sound.proofs.Forms.{weaken}
 use Rattle.tap_sound.proofs.Kit.{WhereSome, either, where_if, where_only, where_some, where_then}
 use Rattle.tap_sound.proofs.Left.{fetching, giving_up, more_chains, more_frames, rx_closes, rx_finds, rx_goes_way, rx_left, rx_notices, rx_packet, rx_takes, tx_closes, tx_finds, tx_left, tx_notices, tx_packet}
 

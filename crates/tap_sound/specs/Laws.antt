@@ -21,7 +21,8 @@ abbrev pub EventsAreScripts : Type 0
 EventsAreScripts =
     (s : Scenario) (events : List (List Event)) (w : World) → IsRun s events w → AreScripted s.phases events
 
--- At any time of a phase they are scripts of commands that have ended, and the beginning of one of the command under way.
+-- At any time of a phase they are scripts of commands that have ended, and the beginning of one of the command under
+-- way.
 abbrev pub EventsBeginScripts : Type 0
 EventsBeginScripts =
     (s : Setup) (number : ℕ) (p : Phase) (es : List Event) (w v : World) → run s es (begins number p w) ≡ Some v
@@ -29,7 +30,8 @@ EventsBeginScripts =
 
 -- The run that a seed picks is a run.
 abbrev pub OrderIsRun : Type 0
-OrderIsRun = (s : Scenario) (seed : ℕ) (events : List (List Event)) (w : World) → IsOrder s seed events w → IsRun s events w
+OrderIsRun =
+    (s : Scenario) (seed : ℕ) (events : List (List Event)) (w : World) → IsOrder s seed events w → IsRun s events w
 
 -- After a run no actor has a command left, and none is under way.
 abbrev pub AllIsDone : Type 0

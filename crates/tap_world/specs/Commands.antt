@@ -14,7 +14,7 @@ use Rattle.tap_world.specs.Setup.{Numbered}
 
 -- ---- commands on the table
 
--- An attach looks, opens the gate and publishes.
+-- An attach opens the gate and publishes.
 abbrev pub attach : Grammar
 attach = One Reopen ⨾ One Publish
 
@@ -36,8 +36,8 @@ shrink = Many (One Cut) ⨾ One Publish
 abbrev pub route : Grammar
 route = One Gone or One Spent or One Full or One Claim ⨾ One Ready
 
--- A read moves ring fronts to the batch while it finds it empty; it ends by meeting a worker, by taking the front out, or
--- by finding none ready.
+-- A read moves ring fronts to the batch while it finds it empty; it ends by meeting a worker, by taking the front
+-- out, or by finding none ready.
 abbrev pub taking : Grammar
 taking = Many (One Move) ⨾ (One Owner or One Out or One NotReady)
 
@@ -66,7 +66,7 @@ backing ring None = unsetting ring
 abbrev pub finds_nothing : Grammar
 finds_nothing = One Fetch ⨾ One Notices ⨾ One Fetch
 
--- Where that one finds something, notices are turned off; so something is found at once, or at the second fetch.
+-- Where that one finds something, notices are turned off. So something is found at once, or at the second fetch.
 abbrev pub finds : Grammar
 finds = One Fetch or finds_nothing ⨾ One Notices
 
@@ -74,13 +74,13 @@ finds = One Fetch or finds_nothing ⨾ One Notices
 abbrev pub published : Grammar
 published = Perhaps (One PublishUsed)
 
--- A frame is taken in hand, chains are fetched, and it is copied to them and leaves, or leaves without a copy; 64 chains
--- that are done are published.
+-- A frame is taken in hand, chains are fetched, and it is copied to them and leaves, or leaves without a copy; 64
+-- chains that are done are published.
 abbrev pub frame : Grammar
 frame = One Hand ⨾ Some_of finds ⨾ Perhaps (One Copy) ⨾ One Out ⨾ published
 
--- A receive turn ends behind a frame, or where none is ready, or by putting back a frame for which no chain was there or
--- one was bad.
+-- A receive turn ends behind a frame, or where none is ready, or by putting back a frame for which no chain was there
+-- or one was bad.
 abbrev pub no_more_frames : Grammar
 no_more_frames = One NotReady ⨾ published
 
@@ -90,8 +90,8 @@ put_back = One Hand ⨾ Many finds ⨾ (finds or finds_nothing) ⨾ One PutBack 
 abbrev pub frames : Grammar
 frames = Many frame ⨾ (frame or no_more_frames or put_back)
 
--- A chain is fetched and copied; an accepted frame is given to the host, and the table is looked at and the flow learnt;
--- 64 chains that are done are published.
+-- A chain is fetched and copied; an accepted frame is given to the host, and the table is looked at and the flow
+-- learnt; 64 chains that are done are published.
 abbrev pub chain : Grammar
 chain = finds ⨾ One Copy ⨾ Perhaps (One HostIn ⨾ One Look ⨾ Perhaps (One Publish)) ⨾ published
 
@@ -104,9 +104,9 @@ chains = Many chain ⨾ (chain or no_more_chains)
 
 -- ---- the table of commands
 
--- A command on the table that is refused, and a command on a frame that has no place to go, ends at its look. A `setqueue`
--- attaches where its flag says so; a `close` detaches where its file is enabled. A turn that finds no backend or a stopped
--- ring ends at once, and else turns notices off first.
+-- A command on the table that is refused, and a command on a frame that has no place to go, ends at its look. A
+-- `setqueue` attaches where its flag says so; a `close` detaches where its file is enabled. A turn that finds no
+-- backend or a stopped ring ends at once, and else turns notices off first.
 abbrev pub form_of : Command → Grammar
 form_of (command.SetIff file name flags) = One Look ⨾ Perhaps attach
 form_of (command.SetQueue file flags) =

@@ -99,9 +99,9 @@ abbrev pub has_left : Standing → Bool
 has_left (Out fate.Waiting) = false
 has_left other = true
 
--- the capacity that a command under way has changed and not published
-abbrev pub capacity_before : World → ℕ → Table → ℕ
-capacity_before w file t = (file_at t file).capacity
+-- the capacity that the table has, which is the one before a resize that isn't published yet
+abbrev pub capacity_before : ℕ → Table → ℕ
+capacity_before file t = (file_at t file).capacity
 
 -- An entry that is out has a fate. The batch has at most 64. Claimed - freed is at most the capacity, or, between a
 -- resize and its publication, at most the greater of this one and the one before. Claimed is at most 2 ^ 40 - 1.
@@ -249,7 +249,7 @@ WriterIsHeld w actor a = holds a.doing ≡ option_map_or (λ other. other == act
 
 pub record IsSound (s : Setup) (w : World) : Type 0 where
   pub names : NamesStandOnce w
-  pub room : EachFile w (λ file f. HasRoom (capacity_before w file (table s w)) f)
+  pub room : EachFile w (λ file f. HasRoom (capacity_before file (table s w)) f)
   pub claims : EachFile w (ClaimIsHeld w)
   pub epochs : EachFile w (λ file f. HasEpochs f)
   pub shut : EachFile w (IsEmptyWhenShut w)
