@@ -16,3 +16,5 @@ mod Kept
 mod Tame
 mod TameRows
 mod Used
+mod Standing
+mod Stand

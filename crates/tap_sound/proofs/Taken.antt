@@ -17,7 +17,7 @@ use Rattle.tap_world.specs.Scripts.{is_kind, next_kind}
 use Rattle.tap_world.specs.Step.{effect, row, step, stepped}
 use Rattle.tap_sound.proofs.Kit.{only_some, some_same, then_some}
 
-both : (a b : Bool) → (a && b) ≡ true → (a ≡ true) × (b ≡ true)
+pub both : (a b : Bool) → (a && b) ≡ true → (a ≡ true) × (b ≡ true)
 both true b e = (refl, e)
 both false b e = absurd (true≢false (sym e))
 

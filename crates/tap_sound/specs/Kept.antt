@@ -8,6 +8,7 @@ use Rattle.tap_world.specs.Setup.{Setup}
 use Rattle.tap_world.specs.Line.{File, claimed, count, in_batch}
 use Rattle.tap_world.specs.World.{World, table}
 use Rattle.tap_world.specs.Step.{step}
+use Rattle.tap_world.specs.SoundActors.{CanBe}
 use Rattle.tap_world.specs.Sound.{EachActor, EachFile, HasEpochs, HasRoom, HasSeen, InThreeParts, capacity_before}
 
 -- Every event keeps that epochs never fall along a line, and that what waits has the gate's.
@@ -47,3 +48,9 @@ RoomIsKept =
     (s : Setup) (w : World) (e : Event) (u : World × Heard) → step s w e ≡ Some u → leaves_sizes e.kind ≡ true
     → EachActor w (HasSeen w) → EachFile w (λ file f. HasRoom (capacity_before file (table s w)) f)
     → EachFile u.0 (λ file f. HasRoom (capacity_before file (table s u.0)) f)
+
+-- Every event keeps that each command has come as far as it can, and no further.
+abbrev pub StandsAreKept : Type 0
+StandsAreKept =
+    (s : Setup) (w : World) (e : Event) (u : World × Heard) → step s w e ≡ Some u
+    → EachActor w (λ actor a. CanBe a) → EachActor u.0 (λ actor a. CanBe a)

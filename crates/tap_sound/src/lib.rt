@@ -4,7 +4,7 @@
 //! proofs begin with `proofs/Kit.antt` and `proofs/Taken.antt`, which take a step apart.
 #![tactic(auto)]
 
-ghost use Rattle.tap_sound.specs.Kept.{EpochsAreKept, LinesAreKept, RoomIsKept, VersionsAreKept};
+ghost use Rattle.tap_sound.specs.Kept.{EpochsAreKept, LinesAreKept, RoomIsKept, StandsAreKept, VersionsAreKept};
 ghost use Rattle.tap_sound.specs.Laws.{AllIsDone, EventsAreScripts, EventsBeginScripts, OrderIsRun};
 ghost use Rattle.tap_sound.specs.Used.{UsedIsCounted};
 
@@ -44,4 +44,9 @@ pub fn versions_are_kept()
 /// In a sound world the k-th entry of a list of positions is the k-th chain, published once.
 pub fn used_is_counted()
     ensures { UsedIsCounted }
+{}
+
+/// Every event keeps that each command has come no further than it can.
+pub fn stands_are_kept()
+    ensures { StandsAreKept }
 {}

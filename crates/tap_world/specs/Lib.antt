@@ -21,6 +21,7 @@ pub mod Step
 pub mod Runs
 pub mod Project
 pub mod SoundRings
+pub mod SoundActors
 pub mod Sound
 pub mod Laws
 pub mod Examples
