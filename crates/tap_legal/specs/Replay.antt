@@ -3,7 +3,7 @@
 -- line.
 use Rattle.std.specs.Prelude.{ℕ, zero, suc, ◌-◌, ◌^◌, ◌==◌, if◌then◌else◌, Bool, true, false, List, [], ◌∷◌, ◌++◌, length, map, filter, Option, Some, None, is_none}
 use Rattle.std.specs.Option.{option_map_or}
-use Rattle.guest_mem.specs.Memory.{Contents, first_bad, written}
+use Rattle.guest_mem.specs.Memory.{Contents, first_bad}
 use Rattle.tap_frame.specs.declared.name.Name.{Name}
 use Rattle.tap_frame.specs.Frame.{FrameValue}
 use Rattle.tap_ledger.specs.declared.hand.Hand.{Hand}
@@ -29,7 +29,7 @@ use Rattle.tap_world.specs.Guests.{Vhost, turn_of}
 use Rattle.tap_world.specs.Setup.{frame_of}
 use Rattle.tap_world.specs.World.{name_of}
 use Rattle.tap_world.specs.StepBackend.{back_answer, back_refusal, unfit_for}
-use Rattle.tap_world.specs.StepControl.{call_of, may_call, peeked}
+use Rattle.tap_world.specs.StepControl.{call_of, may_call, peeked, poke_leaves, poke_told, vhost_of}
 use Rattle.tap_world.specs.StepControl.{Call}
 use Rattle.tap_legal.specs.Numbered.{AnswerAt, StepAt}
 use Rattle.tap_legal.specs.Codes.{same_answer, same_kind}
@@ -103,16 +103,7 @@ abbrev pub vhost_named : Command → Option ℕ
 vhost_named (command.Backend vhost ring file) = Some vhost
 vhost_named (command.RxTurn vhost) = Some vhost
 vhost_named (command.TxTurn vhost) = Some vhost
-vhost_named (command.Features vhost bits) = Some vhost
-vhost_named (command.VNum vhost ring n) = Some vhost
-vhost_named (command.VBase vhost ring n) = Some vhost
-vhost_named (command.VAddr vhost ring desc avail used) = Some vhost
-vhost_named (command.GetBase vhost ring) = Some vhost
-vhost_named (command.DriveAt vhost ring addr) = Some vhost
-vhost_named (command.PostIn vhost ring lens) = Some vhost
-vhost_named (command.PostOut vhost ring bytes) = Some vhost
-vhost_named (command.Harvest vhost ring) = Some vhost
-vhost_named other = None
+vhost_named other = vhost_of other
 
 -- a control call meets no turn on its ring; here turns are held by their commands
 abbrev pub replay_call : Case → StepAt → Command → Replay → Option Replay
@@ -126,8 +117,7 @@ abbrev pub replay_bytes : Case → StepAt → Command → Replay → Option Repl
 replay_bytes c s (command.Poke guest addr bytes) r =
     let bad : Option ℕ = first_bad r.memory.regions addr (length bytes) in
     Some (if_step s (Some kind.Poke) r
-    (answers c s.at.command (option_map_or (λ b. answer.Fault b) bad answer.Done)
-    (record r { memory = if is_none bad then written r.memory addr bytes else r.memory })))
+    (answers c s.at.command (poke_told bad) (record r { memory = poke_leaves r.memory addr bytes bad })))
 replay_bytes c s (command.Peek guest addr len) r =
     Some (if_step s (Some kind.Peek) r
     (answers c s.at.command (peeked addr len r.memory (first_bad r.memory.regions addr len)) r))

@@ -14,11 +14,14 @@ pub mod StepControl
 pub mod StepBackend
 pub mod StepTurns
 pub mod StepTransmits
+pub mod Grammar
+pub mod Commands
 pub mod Scripts
 pub mod Step
 pub mod Runs
 pub mod Project
 pub mod SoundRings
+pub mod SoundActors
 pub mod Sound
 pub mod Laws
 pub mod Examples

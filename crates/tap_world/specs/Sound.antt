@@ -11,12 +11,16 @@ use Rattle.tap_trace.specs.declared.turn.ChainText.{ChainText}
 use Rattle.tap_trace.specs.declared.turn.ChainText.TheVariants as chain
 use Rattle.tap_world.specs.ByNumber.{at}
 use Rattle.tap_world.specs.Guests.{Vhost}
-use Rattle.tap_world.specs.Setup.{Setup}
+use Rattle.scen_words.specs.declared.command.Command.{Command}
+use Rattle.scen_words.specs.declared.command.Command.TheVariants as command
+use Rattle.tap_world.specs.Then.{◌>>=◌}
+use Rattle.tap_world.specs.Setup.{Numbered, Setup}
 use Rattle.tap_world.specs.StepTable.{is_enabled}
 use Rattle.tap_world.specs.Line.{Entry, File, Standing, claimed, count, first_that, freed, in_batch, is_empty, is_kept}
 use Rattle.tap_world.specs.Line.Standing.{Batched, Claimed, Cut, Out, Ready}
-use Rattle.tap_world.specs.World.{Actor, Doing, Said, World, name_of, newest, table}
+use Rattle.tap_world.specs.World.{Actor, Doing, Said, World, current, name_of, newest, table}
 use Rattle.tap_world.specs.World.Doing.{Backed, Backs, Begun, Changes, Disowned, Opened, Opens, Owns, Placed, Purges, Receives, Released, Resizes, Shrinks, Unbacked, Withdrawn, Withdraws}
+use Rattle.tap_world.specs.SoundActors.{CanBe}
 use Rattle.tap_world.specs.SoundRings.{HasRings, IsActor, IsServed, TurnsAreHeld}
 
 -- ---- each file, each vhost, each actor
@@ -99,9 +103,9 @@ abbrev pub has_left : Standing → Bool
 has_left (Out fate.Waiting) = false
 has_left other = true
 
--- the capacity that a command under way has changed and not published
-abbrev pub capacity_before : World → ℕ → Table → ℕ
-capacity_before w file t = (file_at t file).capacity
+-- the capacity that the table has, which is the one before a resize that isn't published yet
+abbrev pub capacity_before : ℕ → Table → ℕ
+capacity_before file t = (file_at t file).capacity
 
 -- An entry that is out has a fate. The batch has at most 64. Claimed - freed is at most the capacity, or, between a
 -- resize and its publication, at most the greater of this one and the one before. Claimed is at most 2 ^ 40 - 1.
@@ -166,25 +170,37 @@ of_table t file = record {
   resizes = (file_at t file).resizes;
 }
 
--- what the command that holds the writer has on its own file in place of that
-abbrev pub expected : Doing → ℕ → File → Agreed → Agreed
-expected (Opened other) file f x = if other == file then record x { epoch = x.epoch + 1; shut = false } else x
-expected (Withdrawn other version) file f x = if other == file then record x { shut = false } else x
-expected (Shrinks other places cuts) file f x =
-    if other == file then record x { capacity = f.capacity; resizes = x.resizes + 1 } else x
-expected (Owns other version) file f x = if other == file then record x { owner = None } else x
-expected (Disowned other) file f x = if other == file then record x { owner = None } else x
-expected doing file f x = x
+-- what the command that holds the writer has on its own file in place of that: a resize has the capacity that it asks
+-- for
+abbrev pub expected : Doing → ℕ → ℕ → Agreed → Agreed
+expected (Opened other) asked file x = if other == file then record x { epoch = x.epoch + 1; shut = false } else x
+expected (Withdrawn other version) asked file x = if other == file then record x { shut = false } else x
+expected (Shrinks other places cuts) asked file x =
+    if other == file then record x { capacity = asked; resizes = x.resizes + 1 } else x
+expected (Owns other version) asked file x = if other == file then record x { owner = None } else x
+expected (Disowned other) asked file x = if other == file then record x { owner = None } else x
+expected doing asked file x = x
 
--- what the writer's command is doing
+-- the actor that holds the writer, what its command is doing, and the capacity that this asks for
+abbrev pub writer_of : World → Option Actor
+writer_of w = do
+  actor ← w.writer
+  slice_get w.actors actor
+
 abbrev pub writing : World → Doing
-writing w =
-    option_map_or (λ actor. option_map_or (λ (a : Actor). a.doing) (slice_get w.actors actor) Begun) w.writer Begun
+writing w = option_map_or (λ (a : Actor). a.doing) (writer_of w) Begun
+
+abbrev pub asked_by : Command → ℕ
+asked_by (command.Resize file capacity) = capacity
+asked_by other = 0
+
+abbrev pub asked : World → ℕ
+asked w = option_map_or (λ (c : Numbered). asked_by c.command) (writer_of w >>= λ a. current a.script) 0
 
 -- A gate has its file's epoch, and is unshut exactly where its file is enabled; the owner is the worker that the table
 -- names; capacity and number of resizes are the table's; but for the command that holds the writer.
 abbrev pub AgreesWithTable : Setup → World → ℕ → File → Type 0
-AgreesWithTable s w file f = has_of f ≡ expected (writing w) file f (of_table (table s w) file)
+AgreesWithTable s w file f = has_of f ≡ expected (writing w) (asked w) file (of_table (table s w) file)
 
 -- a backend is being set or unset on a file
 abbrev pub is_changing : ℕ → Doing → Bool
@@ -249,7 +265,7 @@ WriterIsHeld w actor a = holds a.doing ≡ option_map_or (λ other. other == act
 
 pub record IsSound (s : Setup) (w : World) : Type 0 where
   pub names : NamesStandOnce w
-  pub room : EachFile w (λ file f. HasRoom (capacity_before w file (table s w)) f)
+  pub room : EachFile w (λ file f. HasRoom (capacity_before file (table s w)) f)
   pub claims : EachFile w (ClaimIsHeld w)
   pub epochs : EachFile w (λ file f. HasEpochs f)
   pub shut : EachFile w (IsEmptyWhenShut w)
@@ -259,6 +275,7 @@ pub record IsSound (s : Setup) (w : World) : Type 0 where
   pub rings : EachVhost w (HasRings w)
   pub served : EachVhost w (IsServed w)
   pub seen : EachActor w (HasSeen w)
+  pub stand : EachActor w (λ actor a. CanBe a)
   pub writer : EachActor w (WriterIsHeld w)
   pub turns : EachVhost w (TurnsAreHeld w)
   pub holders : IsActor w w.writer × EachVhost w (λ vhost v. IsActor w v.rx_turn × IsActor w v.tx_turn)

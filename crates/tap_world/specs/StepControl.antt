@@ -35,11 +35,19 @@ use Rattle.tap_world.specs.Effect.Onward.{Ends}
 
 -- ---- bytes of a guest
 
+-- the memory after a poke, and its answer, which names the first address that isn't there
+abbrev pub poke_leaves : Contents → ℕ → List ℕ → Option ℕ → Contents
+poke_leaves m addr bytes None = written m addr bytes
+poke_leaves m addr bytes (Some bad) = m
+
+abbrev pub poke_told : Option ℕ → Answer
+poke_told None = answer.Done
+poke_told (Some bad) = answer.Fault bad
+
 abbrev pub poked : World → ℕ → ℕ → ℕ → List ℕ → Contents → Option ℕ → Effect
-poked w seen guest addr bytes m None =
-    record (only (Ends seen answer.Done) w) { guests = OnGuest guest (written m addr bytes) (Some kind.Poke) }
-poked w seen guest addr bytes m (Some bad) =
-    record (only (Ends seen (answer.Fault bad)) w) { guests = OnGuest guest m (Some kind.Poke) }
+poked w seen guest addr bytes m bad =
+    record (only (Ends seen (poke_told bad)) w)
+    { guests = OnGuest guest (poke_leaves m addr bytes bad) (Some kind.Poke) }
 
 abbrev pub peeked : ℕ → ℕ → Contents → Option ℕ → Answer
 peeked addr len m None = answer.Peeked (bytes_from m.bytes addr len)

@@ -1,0 +1,52 @@
+//! What is true of every run of a scenario: laws, each a function that does nothing. The statements stand in `specs/`.
+//!
+//! `specs/Laws.antt` says that a run's events are the scripts of its commands, and that nothing is left undone. The
+//! proofs begin with `proofs/Kit.antt` and `proofs/Taken.antt`, which take a step apart.
+#![tactic(auto)]
+
+ghost use Rattle.tap_sound.specs.Kept.{EpochsAreKept, LinesAreKept, RoomIsKept, StandsAreKept, VersionsAreKept};
+ghost use Rattle.tap_sound.specs.Laws.{AllIsDone, EventsAreScripts, EventsBeginScripts, OrderIsRun};
+ghost use Rattle.tap_sound.specs.Used.{UsedIsCounted};
+
+/// In a run the events of each actor are the scripts of its commands, one after another; on the way to its end the last
+/// of them may be the beginning of one.
+pub fn events_are_scripts()
+    ensures whole { EventsAreScripts }
+    ensures so_far { EventsBeginScripts }
+{}
+
+/// The run that a seed picks is a run.
+pub fn order_is_run()
+    ensures { OrderIsRun }
+{}
+
+/// After a run no actor has a command left, and none is under way.
+pub fn all_is_done()
+    ensures { AllIsDone }
+{}
+
+/// Every event keeps each line in order: epochs never fall along it, and its parts stand one behind the other.
+pub fn lines_are_kept()
+    ensures epochs { EpochsAreKept }
+    ensures parts { LinesAreKept }
+{}
+
+/// Every event but the two that change a capacity keeps room in each line.
+pub fn room_is_kept()
+    ensures { RoomIsKept }
+{}
+
+/// Every event keeps that no actor has seen more versions than there are.
+pub fn versions_are_kept()
+    ensures { VersionsAreKept }
+{}
+
+/// In a sound world the k-th entry of a list of positions is the k-th chain, published once.
+pub fn used_is_counted()
+    ensures { UsedIsCounted }
+{}
+
+/// Every event keeps that each command has come no further than it can.
+pub fn stands_are_kept()
+    ensures { StandsAreKept }
+{}
