@@ -1,20 +1,20 @@
 -- Loops that push, write or add item by item.
-use Rattle.std.proofs.Common.{◌≡◌, ℕ, suc, ◌+◌, ◌-◌, ◌<◌, ◌≤◌, min, Bool, true, false, cond, if◌then◌else◌, Some, None, Result, Ok, Err, is_ok, List, [], ◌∷◌, ◌++◌, length, take, drop, get_or, map, reverse, Option, refl, sym, ap, ◌∙◌, append_assoc, add-zero, add-one, drop-cons, arith}
+use Rattle.std.proofs.Common.{◌≡◌, ℕ, suc, ◌+◌, ◌-◌, ◌<◌, ◌≤◌, min, Bool, true, false, cond, if◌then◌else◌, Some, None, Result, Ok, Err, is_ok, List, [], ◌∷◌, ◌++◌, length, take, drop, get_or, map, reverse, Option, sym, ap, ◌∙◌, append_assoc, add-zero, add-one, drop-cons, arith}
 use Rattle.std.specs.Prelude.{OnOk}
 use Rattle.std.specs.declared.alloc.AllocError.{AllocError}
-use Rattle.std.specs.List.{find, flat_map, sum, sum_by}
+use Rattle.std.specs.List.{find, flat_map, sum_by}
 use Rattle.std.specs.Option.{option_or}
 use Rattle.std.proofs.lemmas.List.{take_more, map_push, append-nil, length-take, reverse-append}
 use Rattle.std.proofs.lemmas.List.Concat.{flat_map-append}
 use Rattle.std.proofs.Math.ListN.{drop_of_length-le}
-use Rattle.std.proofs.lemmas.List.Sums.{sum-map, sum_by_push, sum_by-take-le}
+use Rattle.std.proofs.lemmas.List.Sums.{sum_by_push}
 use Rattle.scen_words.specs.Field.{line, text}
 use Rattle.tap_report.specs.declared.frames.Counted.{Counted}
 use Rattle.tap_report.specs.declared.summary.DeviceRow.{DeviceRow}
-use Rattle.tap_ledger.specs.declared.fate.Fate.{Fate}
-use Rattle.tap_report.specs.Rows.{capped, device_row, device_rows, fate_and_len}
+use Rattle.tap_report.specs.Rows.{capped, device_row, device_rows}
 use Rattle.tap_ledger.specs.declared.counters.Counters.{Counters}
-use Rattle.tap_report.specs.ReportText.{counts_line, delivered, discarded, total_line}
+use Rattle.tap_report.specs.Report.{delivered, discarded, total_in}
+use Rattle.tap_report.specs.ReportText.{counts_line, total_line}
 use Rattle.tap_report.specs.Turns.{first_told}
 
 front_is : {X : Type 0} (xs : List X) (i : ℕ) (x d : X) → i < length xs → x ≡ get_or xs i d → take (i + 1) xs ≡ take i xs ++ x ∷ []
@@ -94,26 +94,9 @@ pub last_found : {A : Type 0} (p : A → Bool) (xs : List A) (n : ℕ) (x d : A)
 last_found p xs n x d some within is holds so_far =
     sym (so_far ∙ ap (find p) (back_is xs n x d some within is) ∙ ap (λ b. if b then Some x else find p (reverse (take (n - 1) xs))) holds)
 
-lens : (fs : List Counted) → map (λ (f : Fate × ℕ). f.1) (map fate_and_len fs) ≡ map (λ (f : Counted). f.len) fs
-lens [] = refl
-lens (f ∷ fs) = ap (λ ns. f.len ∷ ns) (lens fs)
-
-sum_of_lens : (fs : List Counted) → sum_by (λ (f : Fate × ℕ). f.1) (map fate_and_len fs) ≡ sum_by (λ (f : Counted). f.len) fs
-sum_of_lens fs =
-    sym (sum-map (λ (f : Fate × ℕ). f.1) (map fate_and_len fs)) ∙ ap sum (lens fs) ∙ sum-map (λ (f : Counted). f.len) fs
-
--- the length of one more frame is within the sum
-pub len_fits : (fs : List Counted) (i n : ℕ) (x d : Counted) → i < length fs → x ≡ get_or fs i d → n ≡ sum_by (λ (f : Fate × ℕ). f.1) (map fate_and_len (take i fs))
-    → sum_by (λ (f : Counted). f.len) fs < 18446744073709551616 → n + x.len < 18446744073709551616
-len_fits fs i n x d lt is so_far fits =
-    let now : n ≡ sum_by (λ (f : Counted). f.len) (take i fs) = so_far ∙ sum_of_lens (take i fs) in
-    let next : sum_by (λ (f : Counted). f.len) (take (i + 1) fs) ≡ sum_by (λ (f : Counted). f.len) (take i fs) + x.len =
-    ap (sum_by (λ (f : Counted). f.len)) (front_is fs i x d lt is) ∙ sum_by_push (λ (f : Counted). f.len) (take i fs) x in
-    omega (arith, now, next, fits, sum_by-take-le (λ (f : Counted). f.len) fs (i + 1))
-
 -- the counts of what was delivered and discarded are shown
 pub total_shown : (old : List ℕ) (c : Counters) (d x : ℕ) → d ≡ delivered c → x ≡ discarded c
-    → old ++ line (counts_line c.accepted c.waiting d x) ≡ old ++ line (total_line c)
+    → old ++ line (counts_line c.accepted c.waiting d x) ≡ old ++ line (total_line (total_in c))
 total_shown old c d x e f =
     ap (λ n. old ++ line (counts_line c.accepted c.waiting n x)) e ∙ ap (λ n. old ++ line (counts_line c.accepted c.waiting (delivered c) n)) f
 

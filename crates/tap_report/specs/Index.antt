@@ -1,6 +1,6 @@
 -- This project's own: for which device a frame counts. A frame that was sent counts for the name in its `send`, one
 -- that was hosted for the name under which its file was attached last when its command ended.
-use Rattle.std.specs.Prelude.{ℕ, Bool, ◌&&◌, ◌==◌, nat_le, min, List, [], ◌∷◌, ◌++◌, length, map, reverse, slice_get, position, find, Option, Some, None, option_and_then, unwrap_or}
+use Rattle.std.specs.Prelude.{ℕ, Bool, ◌&&◌, ◌==◌, nat_le, min, List, [], ◌∷◌, length, map, reverse, slice_get, position, find, Option, Some, option_and_then, unwrap_or}
 use Rattle.std.specs.List.{flat_map}
 use Rattle.std.specs.Option.{option_or}
 use Rattle.std.specs.Str.{bytes_eq}

@@ -1,14 +1,12 @@
 -- This project's own: the report as JSON: the words of each line as keys, in the order of their bytes, and numbers.
 use Rattle.std.specs.Prelude.{ℕ, List, map, codes}
-use Rattle.serde_json.specs.Data.{Data, number, unsigned, string, array, object, Members, no_members, member}
+use Rattle.serde_json.specs.Data.{Data, number, unsigned, string, array, object, no_members, member}
 use Rattle.serde_json.specs.View.{items_of}
 use Rattle.serde_json.specs.Written.{compact_text}
-use Rattle.tap_ledger.specs.declared.counters.Counters.{Counters}
 use Rattle.tap_report.specs.declared.summary.DeviceRow.{DeviceRow}
 use Rattle.tap_report.specs.declared.summary.FileRow.{FileRow}
 use Rattle.tap_report.specs.declared.summary.RingRow.{RingRow}
-use Rattle.tap_report.specs.declared.summary.Summary.{Summary}
-use Rattle.tap_report.specs.ReportText.{delivered, discarded}
+use Rattle.tap_report.specs.Report.{Report, Total}
 
 -- a number
 abbrev pub count : ℕ → Data
@@ -33,18 +31,18 @@ ring_data r =
     (member (codes "frames") (count r.frames) (member (codes "ring") (count r.ring)
     (member (codes "stopped") (count r.stopped) (member (codes "vhost") (count r.vhost) no_members))))))))
 
-abbrev pub total_data : Counters → Data
-total_data c =
-    object (member (codes "accepted") (count c.accepted) (member (codes "delivered") (count (delivered c))
-    (member (codes "discarded") (count (discarded c)) (member (codes "waiting") (count c.waiting) no_members))))
+abbrev pub total_data : Total → Data
+total_data t =
+    object (member (codes "accepted") (count t.accepted) (member (codes "delivered") (count t.delivered)
+    (member (codes "discarded") (count t.discarded) (member (codes "waiting") (count t.waiting) no_members))))
 
-abbrev pub summary_data : Summary → Data
-summary_data s =
-    object (member (codes "devices") (array (items_of (map device_data s.devices)))
-    (member (codes "files") (array (items_of (map file_data s.files)))
-    (member (codes "rings") (array (items_of (map ring_data s.rings)))
-    (member (codes "total") (total_data s.total) no_members))))
+abbrev pub report_data : Report → Data
+report_data r =
+    object (member (codes "devices") (array (items_of (map device_data r.devices)))
+    (member (codes "files") (array (items_of (map file_data r.files)))
+    (member (codes "rings") (array (items_of (map ring_data r.rings)))
+    (member (codes "total") (total_data r.total) no_members))))
 
 -- its compact text
-abbrev pub report_json : Summary → List ℕ
-report_json s = compact_text (summary_data s)
+abbrev pub report_json : Report → List ℕ
+report_json r = compact_text (report_data r)

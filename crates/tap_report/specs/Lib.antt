@@ -3,6 +3,7 @@ pub mod Following
 pub mod Frames
 pub mod Index
 pub mod Json
+pub mod Report
 pub mod ReportText
 pub mod Rows
 pub mod Turns

@@ -1,19 +1,11 @@
 -- This project's own: the text of the report.
-use Rattle.std.specs.Prelude.{ℕ, ◌+◌, List, [], ◌∷◌, ◌++◌, map, sum, codes}
+use Rattle.std.specs.Prelude.{ℕ, List, [], ◌∷◌, ◌++◌, map, codes}
 use Rattle.std.specs.Fmt.{decimal}
 use Rattle.scen_words.specs.Field.{text}
-use Rattle.tap_ledger.specs.declared.counters.Counters.{Counters}
 use Rattle.tap_report.specs.declared.summary.DeviceRow.{DeviceRow}
 use Rattle.tap_report.specs.declared.summary.FileRow.{FileRow}
 use Rattle.tap_report.specs.declared.summary.RingRow.{RingRow}
-use Rattle.tap_report.specs.declared.summary.Summary.{Summary}
-
--- a frame is delivered to a reader, to a guest or to the host
-abbrev pub delivered : Counters → ℕ
-delivered c = c.read + c.guest + c.host
-
-abbrev pub discarded : Counters → ℕ
-discarded c = sum c.by_cause
+use Rattle.tap_report.specs.Report.{Report, Total}
 
 -- `device NAME rx N tx N dropped N`
 abbrev pub device_line : DeviceRow → List (List ℕ)
@@ -41,13 +33,13 @@ counts_line accepted waiting given dropped =
     codes "total" ∷ codes "accepted" ∷ decimal accepted ∷ codes "waiting" ∷ decimal waiting
     ∷ codes "delivered" ∷ decimal given ∷ codes "discarded" ∷ decimal dropped ∷ []
 
-abbrev pub total_line : Counters → List (List ℕ)
-total_line c = counts_line c.accepted c.waiting (delivered c) (discarded c)
+abbrev pub total_line : Total → List (List ℕ)
+total_line t = counts_line t.accepted t.waiting t.delivered t.discarded
 
-abbrev pub report_lines : Summary → List (List (List ℕ))
-report_lines s =
+abbrev pub report_lines : Report → List (List (List ℕ))
+report_lines r =
     (codes "report" ∷ [])
-    ∷ (map device_line s.devices ++ map file_line s.files ++ map ring_line s.rings ++ total_line s.total ∷ [])
+    ∷ (map device_line r.devices ++ map file_line r.files ++ map ring_line r.rings ++ total_line r.total ∷ [])
 
-abbrev pub report_text : Summary → List ℕ
-report_text s = text (report_lines s)
+abbrev pub report_text : Report → List ℕ
+report_text r = text (report_lines r)

@@ -1,11 +1,11 @@
--- This project's own: the report of a run.
-use Rattle.std.specs.Prelude.{◌≡◌, ℕ, ◌+◌, ◌-◌, ◌^◌, Bool, true, false, ◌&&◌, ◌==◌, min, if◌then◌else◌, List, [], ◌∷◌, length, map, sum_by, count_by, Option, Some, None}
+-- This project's own: what a report has of a device, of a file and of a ring.
+use Rattle.std.specs.Prelude.{ℕ, ◌+◌, Bool, true, false, ◌&&◌, ◌==◌, min, if◌then◌else◌, List, [], ◌∷◌, length, map, sum_by, count_by, Option, Some, None}
 use Rattle.scen_text.specs.declared.scenario.Scenario.{Scenario}
 use Rattle.tap_ledger.specs.declared.fate.Cause.{Cause}
 use Rattle.tap_ledger.specs.declared.fate.Cause.TheVariants.{NoQueue, Filtered, Gone, Full, Purged, Overrun, Cut, Spent}
 use Rattle.tap_ledger.specs.declared.fate.Fate.{Fate}
-use Rattle.tap_ledger.specs.declared.fate.Fate.TheVariants.{Waiting, Read, Guest, Host, Discarded}
-use Rattle.tap_ledger.specs.Counters.{Counts}
+use Rattle.tap_ledger.specs.declared.fate.Fate.TheVariants.{Read, Guest, Host, Discarded}
+use Rattle.tap_ledger.specs.Counters.{is_waiting, is_read, is_guest}
 use Rattle.tap_trace.specs.declared.trace.FilePart.{FilePart}
 use Rattle.tap_trace.specs.declared.trace.GuestPart.{GuestPart}
 use Rattle.tap_trace.specs.declared.trace.PlaceLine.{PlaceLine}
@@ -19,11 +19,10 @@ use Rattle.tap_report.specs.declared.index.Role.{Role}
 use Rattle.tap_report.specs.declared.summary.DeviceRow.{DeviceRow}
 use Rattle.tap_report.specs.declared.summary.FileRow.{FileRow}
 use Rattle.tap_report.specs.declared.summary.RingRow.{RingRow}
-use Rattle.tap_report.specs.declared.summary.Summary.{Summary}
 use Rattle.tap_report.specs.declared.turns.Turned.{Turned}
 use Rattle.tap_report.specs.Frames.{frames}
 use Rattle.tap_report.specs.Index.{attachments, backings, roles}
-use Rattle.tap_report.specs.Turns.{calls, copies, is_turn_of, stopped, turns}
+use Rattle.tap_report.specs.Turns.{calls, copies, is_turn_of, stopped}
 
 -- ---- devices
 
@@ -77,18 +76,6 @@ device_rows fs device [] = []
 device_rows fs device (name ∷ names) = device_row fs device name ∷ device_rows fs (device + 1) names
 
 -- ---- files
-
-abbrev pub is_waiting : Fate → Bool
-is_waiting Waiting = true
-is_waiting fate = false
-
-abbrev pub is_read : Fate → Bool
-is_read Read = true
-is_read fate = false
-
-abbrev pub is_guest : Fate → Bool
-is_guest Guest = true
-is_guest fate = false
 
 abbrev pub is_purged : Fate → Bool
 is_purged (Discarded Purged) = true
@@ -157,7 +144,7 @@ ring_row rs us gs r = record {
   stopped = stopped rs r.vhost r.ring gs;
 }
 
--- ---- the report
+-- ---- all frames
 
 -- what is looked up
 abbrev pub index_of : Scenario → Trace → Index
@@ -171,9 +158,6 @@ frames_of_run s t = frames (index_of s t) t
 abbrev pub fate_and_len : Counted → Fate × ℕ
 fate_and_len f = (f.fate, f.len)
 
--- the report of a trace of a scenario: a device for each name, the files and the rings of the trace, and all frames
-pub record IsReport (s : Scenario) (t : Trace) (r : Summary) : Type 0 where
-  pub devices : r.devices ≡ device_rows (frames_of_run s t) 0 s.names
-  pub files : r.files ≡ map file_row t.files
-  pub rings : r.rings ≡ map (ring_row (roles s) (turns (roles s) t) t.guests) t.rings
-  pub total : Counts r.total (map fate_and_len (frames_of_run s t))
+-- the fates and the lengths of all frames of the run
+abbrev pub fates_of_run : Scenario → Trace → List (Fate × ℕ)
+fates_of_run s t = map fate_and_len (frames_of_run s t)

@@ -3,7 +3,8 @@
 ghost use Rattle.std.specs.Prelude.{◌≡◌, IfOk, map, string_bytes};
 ghost use Rattle.serde_json.specs.Data.{array};
 ghost use Rattle.serde_json.specs.View.{items_of, view};
-ghost use Rattle.tap_report.specs.Json.{device_data, file_data, report_json, ring_data, summary_data, total_data};
+ghost use Rattle.tap_report.specs.Json.{device_data, file_data, report_data, report_json, ring_data, total_data};
+ghost use Rattle.tap_report.specs.Report.{shown, total_in};
 
 use crate::printing::{delivered, discarded};
 use crate::summary::{DeviceRow, FileRow, RingRow, Summary};
@@ -67,7 +68,7 @@ fn ring_values(alloc: Global, rows: &[RingRow]) -> Result<Value, AllocError>
 }
 
 fn total_value(alloc: Global, total: &Counters) -> Result<Value, AllocError>
-    ensures { IfOk result (λ v. view v ≡ total_data total.now) }
+    ensures { IfOk result (λ v. view v ≡ total_data (total_in total.now)) }
 {
     let delivered = delivered(total);
     let discarded = discarded(total);
@@ -77,7 +78,7 @@ fn total_value(alloc: Global, total: &Counters) -> Result<Value, AllocError>
 }
 
 fn summary_value(alloc: Global, summary: &Summary) -> Result<Value, AllocError>
-    ensures { IfOk result (λ v. view v ≡ summary_data summary.now) }
+    ensures { IfOk result (λ v. view v ≡ report_data (shown summary.now)) }
 {
     let devices = device_values(alloc, summary.devices.as_slice())?;
     let files = file_values(alloc, summary.files.as_slice())?;
@@ -88,7 +89,7 @@ fn summary_value(alloc: Global, summary: &Summary) -> Result<Value, AllocError>
 
 /// The report as one line of compact JSON, without a LF.
 pub fn report_json(alloc: Global, summary: &Summary) -> Result<String, AllocError>
-    ensures { IfOk result (λ s. string_bytes s ≡ report_json summary.now) }
+    ensures { IfOk result (λ s. string_bytes s ≡ report_json (shown summary.now)) }
 {
     let value = summary_value(alloc, summary)?;
     value.to_string(alloc)

@@ -1,9 +1,10 @@
 //! The report of a run: what became of its frames, by device, by file and by ring.
 //!
 //! [`report`] counts over a scenario and its trace. `specs/Index.antt` says for which device a frame counts,
-//! `specs/Frames.antt` which frames there are, `specs/Turns.antt` what the turns and the steps of a ring say, and
-//! `specs/Rows.antt` what is counted; `specs/ReportText.antt` and `specs/Json.antt` have the two texts of the report.
-//! `specs/Following.antt` says what may follow a trace.
+//! `specs/Frames.antt` which frames there are, `specs/Turns.antt` what the turns and the steps of a ring say,
+//! `specs/Rows.antt` what is counted, and `specs/Report.antt` the report as a function of both;
+//! `specs/ReportText.antt` and `specs/Json.antt` have its two texts, and `specs/Following.antt` says what may follow a
+//! trace.
 #![tactic(auto)]
 
 mod examples;
@@ -15,8 +16,6 @@ mod printing;
 mod rings;
 mod rows;
 mod summary;
-#[cfg(test)]
-mod tests;
 mod turns;
 
 pub use examples::worked_examples;

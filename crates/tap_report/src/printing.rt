@@ -2,7 +2,8 @@
 
 ghost use Rattle.std.specs.Prelude.{◌≡◌, ◌++◌, ◌<◌, ◌^◌, OnOk, IfOk, map, string_bytes, sum};
 ghost use Rattle.scen_words.specs.Field.{line, text};
-ghost use Rattle.tap_report.specs.ReportText.{counts_line, delivered, device_line, discarded, file_line, report_text, ring_line, total_line};
+ghost use Rattle.tap_report.specs.Report.{delivered, discarded, shown, total_in};
+ghost use Rattle.tap_report.specs.ReportText.{counts_line, device_line, file_line, report_text, ring_line, total_line};
 
 use crate::summary::{DeviceRow, FileRow, RingRow, Summary};
 use std::alloc::{AllocError, Global};
@@ -118,7 +119,7 @@ fn put_counts(
 }
 
 fn put_total(out: &mut String, total: &Counters) -> Result<(), AllocError>
-    ensures { OnOk result (string_bytes out.new ≡ string_bytes out.old ++ line (total_line total.now)) }
+    ensures { OnOk result (string_bytes out.new ≡ string_bytes out.old ++ line (total_line (total_in total.now))) }
 {
     put_counts(
         out,
@@ -131,7 +132,7 @@ fn put_total(out: &mut String, total: &Counters) -> Result<(), AllocError>
 
 /// The text of a report.
 pub fn report_text(alloc: Global, summary: &Summary) -> Result<String, AllocError>
-    ensures { IfOk result (λ s. string_bytes s ≡ report_text summary.now) }
+    ensures { IfOk result (λ s. string_bytes s ≡ report_text (shown summary.now)) }
 {
     let mut out = String::new(alloc);
     out.push_str("report\n")?;

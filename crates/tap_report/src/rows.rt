@@ -1,10 +1,10 @@
 //! The report counted.
 
-ghost use Rattle.std.specs.Prelude.{◌≡◌, ◌<◌, ◌^◌, IfOk, OnOk, map, sum_by};
-ghost use Rattle.tap_ledger.specs.Counters.{Counts};
+ghost use Rattle.std.specs.Prelude.{◌≡◌, ℕ, ◌+◌, ◌<◌, ◌^◌, ◌++◌, ◌∷◌, [], List, IfOk, map};
+ghost use Rattle.tap_ledger.specs.Counters.{is_guest, is_read, is_waiting};
 ghost use Rattle.tap_ledger.specs.declared.fate.Fate.{Fate};
-ghost use Rattle.tap_report.specs.declared.frames.Counted.{Counted};
-ghost use Rattle.tap_report.specs.Rows.{IsReport, device_row, device_rows, fate_and_len, file_row, frames_of_run, is_cut, is_drop, is_dropped, is_guest, is_of, is_overrun, is_purged, is_read, is_received, is_transmitted, is_waiting, of_device, of_line};
+ghost use Rattle.tap_report.specs.Report.{CountsCapped, IsReport};
+ghost use Rattle.tap_report.specs.Rows.{device_row, device_rows, fate_and_len, file_row, is_cut, is_drop, is_dropped, is_of, is_overrun, is_purged, is_received, is_transmitted, of_device, of_line};
 
 use crate::frames::{Counted, frames};
 use crate::index::index_of;
@@ -236,20 +236,30 @@ fn file_rows(alloc: Global, parts: &[FilePart]) -> Result<Items<FileRow>, AllocE
     Ok(rows)
 }
 
+// Counts one more frame; the sum of the lengths stands still at its end.
+fn count(counters: &mut Counters, frame: &Counted)
+    requires { counters.old.accepted + 1 < 2 ^ 64 }
+    ensures { (fates : List (Fate × ℕ)) → CountsCapped counters.old fates
+        → CountsCapped counters.new (fates ++ fate_and_len frame.now ∷ []) }
+{
+    let Counted { fate, len, .. } = *frame;
+    let room = u64::MAX - counters.bytes;
+    let added = u64::from(len).min(room) as u32;
+    counters.count(&fate, added);
+}
+
 fn total(frames: &[Counted]) -> Counters
-    requires { sum_by (λ (f : Counted). f.len) frames.now < 2 ^ 64 }
-    ensures { Counts result (map fate_and_len frames.now) }
+    ensures { CountsCapped result (map fate_and_len frames.now) }
 {
     let mut counters = Counters::new();
     for frame in frames {
-        counters.count(&frame.fate, frame.len);
+        count(&mut counters, frame);
     }
     counters
 }
 
-/// The report of a trace of a scenario. The lengths of its frames come to less than 2^64.
+/// The report of a trace of a scenario. Its sums stand still at 2^64 - 1.
 pub fn report(alloc: Global, scenario: &Scenario, trace: &Trace) -> Result<Summary, AllocError>
-    requires { sum_by (λ (f : Counted). f.len) (frames_of_run scenario.now trace.now) < 2 ^ 64 }
     ensures { IfOk result (λ r. IsReport scenario.now trace.now r) }
 {
     let index = index_of(alloc, scenario, trace)?;

@@ -12,7 +12,8 @@ use Rattle.scen_text.specs.Scenario.{IsRefusal, Stands, scenario_of}
 use Rattle.tap_top.specs.Course.{Course}
 use Rattle.tap_top.specs.Course.Course.{NoMemory, Replied, SourceFailed}
 use Rattle.tap_top.specs.Course.IsSent.{Failed, Lost, OutOfMemory, Whole}
-use Rattle.tap_top.specs.OneFile.{OneFile, is_empty, one_file_of}
+use Rattle.tap_top.specs.Output.{run_of}
+use Rattle.tap_trace.specs.declared.trace.Trace.{Trace}
 use Rattle.tap_top.specs.Top.{Answers, Ended, IsReply, IsWanted, Reads, Sink, Source, Tells, WritesLine, plain_status, reads, reads_input, served, status_for, usage_line}
 use Rattle.tap_top.specs.Top.IsReply.{Good, Made, Refused}
 use Rattle.tap_top.specs.Top.IsWanted.{Reply, Usage}
@@ -123,13 +124,12 @@ one_status words source untouched input bytes s t x y told (Input does took) (Re
 
 -- ---- what is wanted at a status
 
-plain_low : (o : Option OneFile) (empty : Bool) → (plain_status o empty ≤ 2) × (plain_status o empty ≡ 1 → ⊥)
-plain_low (Some file) empty = (omega arith, λ one. omega arith)
-plain_low None true = (omega arith, λ one. omega arith)
-plain_low None false = (omega arith, λ one. omega arith)
+plain_low : (o : Option Trace) → (plain_status o ≤ 2) × (plain_status o ≡ 1 → ⊥)
+plain_low (Some trace) = (omega arith, λ one. omega arith)
+plain_low None = (omega arith, λ one. omega arith)
 
 status_low : (r : Request) (s : Scenario) → (status_for r s ≤ 2) × (status_for r s ≡ 1 → ⊥)
-status_low (Plain seed json) s = plain_low (one_file_of s) (is_empty s)
+status_low (Plain seed json) s = plain_low (run_of s)
 status_low other s = (omega arith, λ one. omega arith)
 
 low_reply : (r : Request) (input : List ℕ) (s : ℕ) (text : List ℕ) → IsReply r input s text → s ≤ 2

@@ -4,5 +4,4 @@ pub mod Kept
 pub mod Laws
 pub mod Line
 pub mod Passing
-pub mod Written
 pub mod Counted

@@ -1,17 +1,18 @@
--- This project's own: the trace and the report of a run on one file, and their texts.
-use Rattle.std.specs.Prelude.{ℕ, ◌+◌, Bool, true, false, List, [], ◌∷◌, ◌++◌, length, count_by, codes}
-use Rattle.std.specs.Fmt.{decimal}
-use Rattle.scen_words.specs.declared.command.Command.{Command}
-use Rattle.tap_top.specs.OneFile.{OneFile}
+-- This project's own: the trace of a run, and what is written for it.
+use Rattle.std.specs.Prelude.{ℕ, ◌+◌, Bool, true, false, List, [], ◌∷◌, ◌++◌, length, Option, Some, None}
+use Rattle.scen_text.specs.declared.scenario.Scenario.{Scenario}
+use Rattle.tap_report.specs.Json.{report_json}
+use Rattle.tap_report.specs.Report.{Report, report_of}
+use Rattle.tap_report.specs.ReportText.{report_text}
+use Rattle.tap_top.specs.OneFile.{OneFile, is_empty, one_file_of}
 use Rattle.tap_trace.specs.declared.answer.Answer.{Answer}
 use Rattle.tap_trace.specs.declared.answer.Answer.TheVariants.{Dropped}
 use Rattle.tap_trace.specs.declared.trace.AnswerLine.{AnswerLine}
 use Rattle.tap_trace.specs.declared.trace.OpText.TheVariants.{SetIff}
 use Rattle.tap_trace.specs.declared.trace.PlaceLine.{PlaceLine}
 use Rattle.tap_trace.specs.declared.trace.Trace.{Trace}
-use Rattle.scen_words.specs.Field.{text}
 use Rattle.trace_text.specs.TraceText.{trace_text}
-use Rattle.tap_top.specs.Run.{Entry, answers, line_of, reads, waiting}
+use Rattle.tap_top.specs.Run.{Entry, answers, line_of, reads}
 
 -- ---- the run
 
@@ -22,6 +23,11 @@ run_answers f = answers f.capacity 0 f.commands []
 -- the line of its file at the end
 abbrev pub run_line : OneFile → List Entry
 run_line f = line_of f.capacity 0 f.commands []
+
+-- an answer says that a frame was dropped
+abbrev pub is_drop : Answer → Bool
+is_drop (Dropped file cause) = true
+is_drop a = false
 
 -- ---- the trace
 
@@ -45,52 +51,29 @@ trace_with name answers lines freed = record {
   rings = [];
 }
 
--- ---- the report
+abbrev pub trace_of : OneFile → Trace
+trace_of f = trace_with f.name (run_answers f) (place_lines 0 (run_line f)) (reads (run_line f))
 
-abbrev pub is_drop : Answer → Bool
-is_drop (Dropped file cause) = true
-is_drop a = false
+-- the trace in which nothing happened
+abbrev pub empty_trace : Trace
+empty_trace = record { phases = []; files = []; guests = []; rings = [] }
 
-abbrev pub drops : List AnswerLine → ℕ
-drops answers = count_by (λ a. is_drop a.answer) answers
+-- the trace of a scenario: of a run on one file, or of an empty scenario; another isn't run so far
+abbrev pub trace_in : Option OneFile → Bool → Option Trace
+trace_in (Some f) empty = Some (trace_of f)
+trace_in None true = Some empty_trace
+trace_in None false = None
 
--- no frame comes from user space
-unfoldable pub device_fields : List ℕ → ℕ → ℕ → List (List ℕ)
-device_fields name read dropped =
-    codes "device" ∷ name ∷ codes "rx" ∷ codes "0" ∷ codes "tx" ∷ decimal read ∷ codes "dropped" ∷ decimal dropped ∷ []
+abbrev pub run_of : Scenario → Option Trace
+run_of s = trace_in (one_file_of s) (is_empty s)
 
--- none goes to a guest, is purged, overrun or cut
-unfoldable pub file_fields : ℕ → ℕ → List (List ℕ)
-file_fields waiting read =
-    codes "file" ∷ codes "0" ∷ codes "waiting" ∷ decimal waiting ∷ codes "read" ∷ decimal read
-    ∷ codes "guest" ∷ codes "0"
-    ∷ codes "purged" ∷ codes "0" ∷ codes "overrun" ∷ codes "0" ∷ codes "cut" ∷ codes "0" ∷ []
+-- ---- what is written
 
--- what was accepted waits, was delivered or was discarded
-unfoldable pub total_fields : ℕ → ℕ → ℕ → List (List ℕ)
-total_fields waiting read dropped =
-    codes "total" ∷ codes "accepted" ∷ decimal (waiting + read + dropped) ∷ codes "waiting" ∷ decimal waiting
-    ∷ codes "delivered" ∷ decimal read ∷ codes "discarded" ∷ decimal dropped ∷ []
+-- the report as text, or as one line of JSON
+abbrev pub report_as : Bool → Report → List ℕ
+report_as true r = report_json r ++ 10 ∷ []
+report_as false r = report_text r
 
-unfoldable pub report_lines : List ℕ → ℕ → ℕ → ℕ → List (List (List ℕ))
-report_lines name waiting read dropped =
-    (codes "report" ∷ []) ∷ device_fields name read dropped ∷ file_fields waiting read
-    ∷ total_fields waiting read dropped ∷ []
-
--- what is written for commands on a file with a ring of so many places, attached to the device of this name: the trace,
--- and then the report
-unfoldable pub output_with : ℕ → List ℕ → List Command → List ℕ
-output_with capacity name commands =
-    let said = answers capacity 0 commands [] in
-    let line = line_of capacity 0 commands [] in
-    trace_text (trace_with name said (place_lines 0 line) (reads line))
-    ++ text (report_lines name (waiting line) (reads line) (drops said))
-
--- what is written for a scenario without declarations and phases: nothing happened
-unfoldable pub empty_output : List ℕ
-empty_output =
-    (codes "taptrace 1" ++ 10 ∷ []) ++ (codes "end" ++ 10 ∷ []) ++ (codes "report" ++ 10 ∷ [])
-    ++ (codes "total accepted 0 waiting 0 delivered 0 discarded 0" ++ 10 ∷ [])
-
-abbrev pub output_of : OneFile → List ℕ
-output_of f = output_with f.capacity f.name f.commands
+-- for a trace of a scenario: the trace, and then its report
+abbrev pub output_of : Bool → Scenario → Trace → List ℕ
+output_of json s t = trace_text t ++ report_as json (report_of s t)

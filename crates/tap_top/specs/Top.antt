@@ -1,5 +1,5 @@
 -- This project's own: the statuses of the program, and what is read and written at each.
-use Rattle.std.specs.Prelude.{◌≡◌, ℕ, ◌+◌, ◌<◌, ◌≤◌, ◌⊎◌, Bool, true, false, not, if◌then◌else◌, List, [], ◌∷◌, ◌++◌, length, take, codes, Option, None, Some}
+use Rattle.std.specs.Prelude.{◌≡◌, ℕ, ◌+◌, ◌<◌, ◌≤◌, ◌⊎◌, Bool, true, false, if◌then◌else◌, List, [], ◌∷◌, ◌++◌, length, take, codes, Option, None, Some}
 use Rattle.std.specs.Fmt.{decimal}
 use Rattle.std.specs.Io.KnownBytes.{Appends, Consumes, IsAtEnd}
 use Rattle.scen_text.specs.declared.fault.ScenFault.{ScenFault}
@@ -13,19 +13,20 @@ use Rattle.scen_text.specs.ScenarioText.{scenario_text}
 use Rattle.scen_gen.specs.Generated.{generated}
 use Rattle.tap_outside.specs.Ends.{one_more}
 use Rattle.tap_top.specs.Headline.{InOrder, OneFate}
-use Rattle.tap_top.specs.OneFile.{OneFile, is_empty, one_file_of}
-use Rattle.tap_top.specs.Output.{empty_output, output_of}
+use Rattle.tap_top.specs.OneFile.{OneFile, one_file_of}
+use Rattle.tap_top.specs.Output.{output_of, run_of}
+use Rattle.tap_trace.specs.declared.trace.Trace.{Trace}
 use Rattle.tap_words.specs.Words.{asks}
 use Rattle.tap_words.specs.declared.request.Request.{Request}
 use Rattle.tap_words.specs.declared.request.Request.TheVariants.{Check, Plain, Live, Audit, Gen, Upgrade}
 
 -- ---- the words
 
--- What is asked for is built: a check, an upgrade, the generator and a run on one thread, but not its report in JSON;
--- nor a run on many threads, nor the judge.
+-- What is asked for is built: a check, an upgrade, the generator and a run on one thread; not a run on many threads, nor
+-- the judge.
 abbrev pub is_built : Request → Bool
 is_built Check = true
-is_built (Plain seed json) = not json
+is_built (Plain seed json) = true
 is_built (Live json) = false
 is_built Audit = false
 is_built (Gen count) = true
@@ -77,26 +78,24 @@ count_line n = line (codes "ok" ∷ decimal n ∷ [])
 abbrev pub upgraded : Scenario → Scenario
 upgraded s = record s { version = 2 }
 
--- a run on one file, or an empty scenario; another isn't run so far
-abbrev pub plain_text : Option OneFile → Bool → List ℕ
-plain_text (Some file) empty = output_of file
-plain_text None true = empty_output
-plain_text None false = not_built_line
+-- the trace of a run, where there is one, with its report behind it
+abbrev pub plain_text : Bool → Scenario → Option Trace → List ℕ
+plain_text json s (Some trace) = output_of json s trace
+plain_text json s None = not_built_line
 
-abbrev pub plain_status : Option OneFile → Bool → ℕ
-plain_status (Some file) empty = 0
-plain_status None true = 0
-plain_status None false = 2
+abbrev pub plain_status : Option Trace → ℕ
+plain_status (Some trace) = 0
+plain_status None = 2
 
 -- the text for a scenario, and its status
 abbrev pub text_for : Request → Scenario → List ℕ
 text_for Check s = count_line (command_count s.phases)
-text_for (Plain seed json) s = plain_text (one_file_of s) (is_empty s)
+text_for (Plain seed json) s = plain_text json s (run_of s)
 text_for Upgrade s = scenario_text (upgraded s)
 text_for unbuilt s = []
 
 abbrev pub status_for : Request → Scenario → ℕ
-status_for (Plain seed json) s = plain_status (one_file_of s) (is_empty s)
+status_for (Plain seed json) s = plain_status (run_of s)
 status_for other s = 0
 
 -- the text of the scenario that is made for a number of sends

@@ -19,8 +19,6 @@ mod placed;
 mod refusal;
 mod running;
 mod serving;
-#[cfg(test)]
-mod tests;
 mod top;
 mod words;
 

@@ -1,87 +1,20 @@
-//! The trace and the report of a run, and their text.
+//! The trace of a run, and what is written for it.
 
-ghost use Rattle.std.specs.Prelude.{◌≡◌, ◌+◌, ◌<◌, ◌^◌, ◌++◌, ◌∷◌, [], List, OnOk, IfOk, string_bytes, option_map, count_by, length};
+ghost use Rattle.std.specs.Prelude.{◌≡◌, ◌<◌, ◌^◌, ◌∷◌, [], IfOk, string_bytes, length};
+ghost use Rattle.tap_report.specs.Report.{shown};
 ghost use Rattle.tap_trace.specs.declared.trace.OpText.TheVariants.{SetIff as Attach};
-ghost use Rattle.scen_words.specs.Field.{line, text};
-ghost use Rattle.tap_top.specs.OneFile.{one_file_of};
-ghost use Rattle.tap_top.specs.Output.{device_fields, file_fields, total_fields, output_with, drops, is_drop, empty_output, output_of, place_lines, report_lines, trace_with};
-ghost use Rattle.tap_top.specs.Run.{Entry, reads, waiting};
+ghost use Rattle.tap_top.specs.OneFile.{is_empty};
+ghost use Rattle.tap_top.specs.Output.{empty_trace, output_of, report_as, run_of, trace_of, trace_with};
 
 use crate::parts::{capacity_in, commands_in, name_in};
 use crate::running::{Outcome, run};
 use scen_text::{Command, Scenario};
 use sqlite_items::Items;
 use std::alloc::{AllocError, Global};
-use std::fmt::Write;
-use tap_trace::{Answer, AnswerLine, FilePart, OpLine, OpText, PhasePart, Trace};
+use tap_report::{Summary, report, report_json, report_text};
+use tap_trace::{FilePart, OpLine, OpText, PhasePart, Trace};
 use text_fields::DeviceName;
 use trace_text::print_trace;
-
-/// Nothing happened.
-const EMPTY: &str = "taptrace 1\nend\nreport\ntotal accepted 0 waiting 0 delivered 0 discarded 0\n";
-
-/// How many answers say that a frame was dropped.
-fn drops(answers: &[AnswerLine]) -> usize
-    ensures { result ≡ drops answers.now }
-{
-    answers
-        .iter()
-        .filter(|a| matches!(a.answer, Answer::Dropped { .. }))
-        .count()
-}
-
-#[tactic(auto, unfolding(crate::specs::Output::device_fields))]
-fn put_device(
-    out: &mut String,
-    name: &DeviceName,
-    read: u64,
-    dropped: u64,
-) -> Result<(), AllocError>
-    ensures { OnOk result (string_bytes out.new ≡ string_bytes out.old ++ line (device_fields name.now read dropped)) }
-{
-    let name = name.as_str();
-    writeln!(out, "device {name} rx 0 tx {read} dropped {dropped}")
-}
-
-#[tactic(auto, unfolding(crate::specs::Output::file_fields))]
-fn put_file(out: &mut String, waiting: u64, read: u64) -> Result<(), AllocError>
-    ensures { OnOk result (string_bytes out.new ≡ string_bytes out.old ++ line (file_fields waiting read)) }
-{
-    write!(out, "file 0 waiting {waiting} read {read}")?;
-    out.push_str(" guest 0 purged 0 overrun 0 cut 0\n")
-}
-
-#[tactic(auto, unfolding(crate::specs::Output::total_fields))]
-fn put_total(out: &mut String, waiting: u64, read: u64, dropped: u64) -> Result<(), AllocError>
-    requires { waiting + read + dropped < 2 ^ 64 }
-    ensures { OnOk result (string_bytes out.new ≡ string_bytes out.old ++ line (total_fields waiting read dropped)) }
-{
-    let accepted = waiting + read + dropped;
-    write!(
-        out,
-        "total accepted {accepted} waiting {waiting} delivered {read} discarded {dropped}"
-    )?;
-    out.push_str("\n")
-}
-
-/// Adds the report of a run: how many frames wait, were read and were dropped.
-#[tactic(auto, unfolding(crate::specs::Output::report_lines))]
-fn put_report(
-    out: &mut String,
-    name: &DeviceName,
-    waiting: u64,
-    read: u64,
-    dropped: u64,
-) -> Result<(), AllocError>
-    requires { waiting + read + dropped < 2 ^ 64 }
-    ensures { OnOk result (string_bytes out.new
-        ≡ string_bytes out.old ++ text (report_lines name.now waiting read dropped)) }
-{
-    out.push_str("report\n")?;
-    put_device(out, name, read, dropped)?;
-    put_file(out, waiting, read)?;
-    put_total(out, waiting, read, dropped)
-}
 
 fn ops(alloc: Global, name: &DeviceName) -> Result<Items<OpLine>, AllocError>
     ensures { IfOk result (λ ops. ops ≡ record { version = 1; command = 0; text = Attach 0 name.now 0x1102 } ∷ []) }
@@ -101,7 +34,7 @@ fn ops(alloc: Global, name: &DeviceName) -> Result<Items<OpLine>, AllocError>
 
 /// The trace of a run on the device of this name.
 #[tactic(auto, unfolding(crate::specs::Output::trace_with))]
-fn trace_of(alloc: Global, name: &DeviceName, outcome: Outcome) -> Result<Trace, AllocError>
+fn traced(alloc: Global, name: &DeviceName, outcome: Outcome) -> Result<Trace, AllocError>
     ensures { IfOk result (λ trace. trace ≡ trace_with name.now outcome.answers outcome.lines outcome.read) }
 {
     let Outcome {
@@ -130,46 +63,77 @@ fn trace_of(alloc: Global, name: &DeviceName, outcome: Outcome) -> Result<Trace,
     })
 }
 
-/// The trace and the report of the run of these commands, on a file with a ring of so many places that is
-/// attached to the device of this name.
-fn output_on(
+/// The trace of the run of these commands, on a file with a ring of so many places that is attached to the device of
+/// this name.
+fn run_on(
     alloc: Global,
     capacity: u16,
     name: &DeviceName,
     commands: &[Command],
-) -> Result<String, AllocError>
+) -> Result<Trace, AllocError>
     requires { length commands.now < 2 ^ 32 }
-    ensures { IfOk result (λ out. string_bytes out ≡ output_with capacity name.now commands.now) }
+    ensures { IfOk result (λ trace. trace ≡ trace_of
+        (record { capacity = capacity; name = name.now; commands = commands.now })) }
 {
     let outcome = run(alloc, capacity, commands)?;
-    let read = outcome.read;
-    let placed = outcome.lines.len() as u64;
-    let dropped = drops(outcome.answers.as_slice()) as u64;
-    let mut out = print_trace(alloc, &trace_of(alloc, name, outcome)?)?;
-    put_report(&mut out, name, placed - read, read, dropped)?;
-    Ok(out)
+    traced(alloc, name, outcome)
 }
 
-/// The trace and the report of a scenario that is a run on one file, or none.
-pub fn output_of(alloc: Global, scenario: &Scenario) -> Result<Option<String>, AllocError>
-    ensures { IfOk result (λ out. option_map string_bytes out
-        ≡ option_map output_of (one_file_of scenario.now)) }
+fn empty_trace(alloc: Global) -> Trace
+    ensures { result ≡ empty_trace }
+{
+    Trace {
+        phases: Items::new(alloc),
+        files: Items::new(alloc),
+        guests: Items::new(alloc),
+        rings: Items::new(alloc),
+    }
+}
+
+fn is_empty(scenario: &Scenario) -> bool
+    ensures { result ≡ is_empty scenario.now }
+{
+    scenario.declarations.is_empty() & scenario.phases.is_empty()
+}
+
+/// The trace of a scenario that is a run on one file, or none at all.
+pub fn run_of(alloc: Global, scenario: &Scenario) -> Result<Option<Trace>, AllocError>
+    ensures { IfOk result (λ trace. trace ≡ run_of scenario.now) }
 {
     let capacity = capacity_in(scenario.declarations.as_slice());
     let name = name_in(scenario.names.as_slice());
     let commands = commands_in(scenario.phases.as_slice());
     match (capacity, name, commands) {
         (Some(capacity), Some(name), Some(commands)) => {
-            Ok(Some(output_on(alloc, capacity, name, commands)?))
+            Ok(Some(run_on(alloc, capacity, name, commands)?))
         }
-        _ => Ok(None),
+        _ => Ok(is_empty(scenario).then(|| empty_trace(alloc))),
     }
 }
 
-/// What is written for a scenario without declarations and phases.
-#[tactic(auto, unfolding(crate::specs::Output::empty_output))]
-pub fn empty_output(alloc: Global) -> Result<String, AllocError>
-    ensures { IfOk result (λ out. string_bytes out ≡ empty_output) }
+fn report_as(alloc: Global, json: bool, summary: &Summary) -> Result<String, AllocError>
+    ensures { IfOk result (λ text. string_bytes text ≡ report_as json (shown summary.now)) }
 {
-    String::from_str(alloc, EMPTY)
+    if json {
+        let mut line = report_json(alloc, summary)?;
+        line.push_str("\n")?;
+        Ok(line)
+    } else {
+        report_text(alloc, summary)
+    }
+}
+
+/// The trace of a scenario, and then its report, as text or as one line of JSON.
+pub fn output_of(
+    alloc: Global,
+    json: bool,
+    scenario: &Scenario,
+    trace: &Trace,
+) -> Result<String, AllocError>
+    ensures { IfOk result (λ out. string_bytes out ≡ output_of json scenario.now trace.now) }
+{
+    let summary = report(alloc, scenario, trace)?;
+    let mut out = print_trace(alloc, trace)?;
+    out.push_str(report_as(alloc, json, &summary)?.as_str())?;
+    Ok(out)
 }

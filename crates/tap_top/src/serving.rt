@@ -1,12 +1,11 @@
 //! What is written for a good scenario.
 
 ghost use Rattle.std.specs.Prelude.{◌≡◌, ◌+◌, ◌≤◌, IfOk, string_bytes};
-ghost use Rattle.tap_top.specs.OneFile.{is_empty, one_file_of};
-ghost use Rattle.tap_top.specs.Output.{empty_output};
+ghost use Rattle.tap_top.specs.Output.{run_of};
 ghost use Rattle.tap_top.specs.Serving.{Serves};
 ghost use Rattle.tap_top.specs.Top.{command_count, count_line, made_text, not_built_line, plain_status, plain_text};
 
-use crate::output::{empty_output, output_of};
+use crate::output::{output_of, run_of};
 use scen_gen::generate;
 use scen_text::{Phase, Scenario, print_scenario, upgrade};
 use std::alloc::{AllocError, Global};
@@ -50,12 +49,6 @@ fn count_line(alloc: Global, count: usize) -> Result<String, AllocError>
     Ok(text)
 }
 
-fn is_empty(scenario: &Scenario) -> bool
-    ensures { result ≡ is_empty scenario.now }
-{
-    scenario.declarations.is_empty() & scenario.phases.is_empty()
-}
-
 #[tactic(auto, unfolding(crate::specs::Top::not_built_line))]
 fn not_built(alloc: Global) -> Result<String, AllocError>
     ensures { IfOk result (λ text. string_bytes text ≡ not_built_line) }
@@ -64,24 +57,18 @@ fn not_built(alloc: Global) -> Result<String, AllocError>
 }
 
 // A run on one thread.
-fn plain(alloc: Global, scenario: &Scenario) -> Result<Reply, AllocError>
-    ensures text { IfOk result (λ r. string_bytes r.text
-        ≡ plain_text (one_file_of scenario.now) (is_empty scenario.now)) }
-    ensures status { IfOk result (λ r. r.status ≡ plain_status (one_file_of scenario.now) (is_empty scenario.now)) }
+fn plain(alloc: Global, json: bool, scenario: &Scenario) -> Result<Reply, AllocError>
+    ensures text { IfOk result (λ r. string_bytes r.text ≡ plain_text json scenario.now (run_of scenario.now)) }
+    ensures status { IfOk result (λ r. r.status ≡ plain_status (run_of scenario.now)) }
 {
-    if let Some(text) = output_of(alloc, scenario)? {
-        return Ok(Reply { status: 0, text });
-    }
-    if is_empty(scenario) {
+    let Some(trace) = run_of(alloc, scenario)? else {
         return Ok(Reply {
-            status: 0,
-            text: empty_output(alloc)?,
+            status: 2,
+            text: not_built(alloc)?,
         });
-    }
-    Ok(Reply {
-        status: 2,
-        text: not_built(alloc)?,
-    })
+    };
+    let text = output_of(alloc, json, scenario, &trace)?;
+    Ok(Reply { status: 0, text })
 }
 
 /// What is written for a good scenario.
@@ -97,7 +84,7 @@ pub fn serve(alloc: Global, request: Request, scenario: Scenario) -> Result<Repl
             status: 0,
             text: print_scenario(alloc, &upgrade(scenario))?,
         }),
-        Request::Plain { .. } => plain(alloc, &scenario),
+        Request::Plain { json, .. } => plain(alloc, json, &scenario),
         Request::Live { .. } | Request::Audit | Request::Gen { .. } => Ok(Reply {
             status: 0,
             text: String::new(alloc),

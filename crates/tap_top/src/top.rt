@@ -88,7 +88,7 @@ fn course<S: Source, K: Sink>(alloc: Global, words: &[String], source: &mut S, s
 ///
 /// | status | where | written |
 /// |---|---|---|
-/// | 0 | done | what is asked for: of a run the trace, then the report |
+/// | 0 | done | what is asked for: of a run the trace, then the report, as text or as one line of JSON |
 /// | 1 | the words are in no row of the table, or what they ask for isn't built | the usage line |
 /// | 2 | the scenario is refused | `refused LINE WHY` |
 /// | 3 | the source failed | nothing |

@@ -11,8 +11,7 @@ fn is_built(request: &Request) -> bool
     ensures { result ≡ is_built request.now }
 {
     match request {
-        Request::Check | Request::Upgrade | Request::Gen { .. } => true,
-        Request::Plain { json, .. } => !*json,
+        Request::Check | Request::Plain { .. } | Request::Gen { .. } | Request::Upgrade => true,
         Request::Live { .. } | Request::Audit => false,
     }
 }

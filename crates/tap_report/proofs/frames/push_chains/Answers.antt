@@ -1,4 +1,4 @@
-use Rattle.std.proofs.Common.{[], refl}
+use Rattle.std.proofs.Common.{refl}
 use Rattle.tap_report.specs.Frames.{chain_frames}
 use Rattle.tap_report.proofs.Loops.{appended}
 use Rattle.tap_report.proofs.frames.push_chains.Goals as goal

@@ -1,4 +1,3 @@
-use Rattle.std.proofs.Common.{[], refl}
 use Rattle.tap_report.specs.Frames.{file_frames}
 use Rattle.tap_report.proofs.Loops.{appended}
 use Rattle.tap_report.proofs.frames.push_files.Goals as goal

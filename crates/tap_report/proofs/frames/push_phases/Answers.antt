@@ -1,4 +1,3 @@
-use Rattle.std.proofs.Common.{[], refl}
 use Rattle.tap_report.specs.Frames.{phase_frames}
 use Rattle.tap_report.proofs.Loops.{appended}
 use Rattle.tap_report.proofs.frames.push_phases.Goals as goal

@@ -1,4 +1,4 @@
-use Rattle.std.proofs.Common.{[], refl}
+use Rattle.std.proofs.Common.{[]}
 use Rattle.tap_report.specs.Index.{phase_attachments}
 use Rattle.tap_report.proofs.Loops.{appended}
 use Rattle.tap_report.proofs.index.attachments.Goals as goal

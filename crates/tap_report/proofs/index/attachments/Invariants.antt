@@ -1,4 +1,4 @@
-use Rattle.std.proofs.Common.{◌≡◌, ◌++◌, take}
+use Rattle.std.proofs.Common.{◌≡◌, take}
 use Rattle.std.specs.List.{flat_map}
 use Rattle.tap_report.specs.Index.{phase_attachments}
 use Rattle.tap_report.proofs.index.attachments.Given as goal

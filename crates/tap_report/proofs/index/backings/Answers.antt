@@ -1,4 +1,4 @@
-use Rattle.std.proofs.Common.{[], refl}
+use Rattle.std.proofs.Common.{[]}
 use Rattle.tap_report.specs.Index.{phase_backings}
 use Rattle.tap_report.proofs.Loops.{appended}
 use Rattle.tap_report.proofs.index.backings.Goals as goal

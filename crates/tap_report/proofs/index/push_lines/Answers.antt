@@ -1,4 +1,4 @@
-use Rattle.std.proofs.Common.{[], ◌∷◌, ◌++◌, ap, ◌∙◌, refl}
+use Rattle.std.proofs.Common.{[], ◌∷◌, ◌++◌, ap, ◌∙◌}
 use Rattle.tap_report.specs.Index.{line_role}
 use Rattle.tap_report.proofs.Loops.{pushed}
 use Rattle.tap_report.proofs.index.push_lines.Goals as goal

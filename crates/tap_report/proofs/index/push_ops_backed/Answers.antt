@@ -1,4 +1,3 @@
-use Rattle.std.proofs.Common.{[], refl}
 use Rattle.tap_report.specs.Index.{op_backed}
 use Rattle.tap_report.proofs.Loops.{appended}
 use Rattle.tap_report.proofs.index.push_ops_backed.Goals as goal

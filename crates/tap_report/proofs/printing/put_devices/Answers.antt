@@ -1,4 +1,3 @@
-use Rattle.std.proofs.Common.{refl}
 use Rattle.tap_report.specs.ReportText.{device_line}
 use Rattle.tap_report.proofs.Loops.{text_more}
 use Rattle.tap_report.proofs.printing.put_devices.Goals as goal

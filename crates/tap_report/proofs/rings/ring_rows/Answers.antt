@@ -1,4 +1,4 @@
-use Rattle.std.proofs.Common.{[], ◌∷◌, ◌++◌, ap, ◌∙◌, refl}
+use Rattle.std.proofs.Common.{[], ◌∷◌, ◌++◌, ap, ◌∙◌}
 use Rattle.tap_report.specs.Rows.{ring_row}
 use Rattle.tap_report.proofs.Loops.{pushed}
 use Rattle.tap_report.proofs.rings.ring_rows.Goals as goal

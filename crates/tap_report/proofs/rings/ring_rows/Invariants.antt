@@ -1,4 +1,4 @@
-use Rattle.std.proofs.Common.{◌≡◌, ◌++◌, take, map}
+use Rattle.std.proofs.Common.{◌≡◌, take, map}
 use Rattle.tap_report.specs.Rows.{ring_row}
 use Rattle.tap_report.proofs.rings.ring_rows.Given as goal
 

@@ -1,4 +1,4 @@
-use Rattle.std.proofs.Common.{[], refl}
+use Rattle.std.proofs.Common.{[]}
 use Rattle.tap_report.specs.Turns.{phase_turns}
 use Rattle.tap_report.proofs.Loops.{appended}
 use Rattle.tap_report.proofs.turns.turns.Goals as goal

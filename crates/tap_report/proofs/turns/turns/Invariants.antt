@@ -1,4 +1,4 @@
-use Rattle.std.proofs.Common.{◌≡◌, ◌++◌, take}
+use Rattle.std.proofs.Common.{◌≡◌, take}
 use Rattle.std.specs.List.{flat_map}
 use Rattle.tap_report.specs.Turns.{phase_turns}
 use Rattle.tap_report.proofs.turns.turns.Given as goal
