@@ -1,9 +1,4 @@
-pub mod Answers
 pub mod BadLine
-pub mod Causes
-pub mod Fits
-pub mod Operations
 pub mod Ordered
 pub mod Parts
-pub mod Steps
 pub mod TraceText

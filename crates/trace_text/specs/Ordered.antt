@@ -11,7 +11,7 @@ use Rattle.tap_trace.specs.declared.trace.PositionList.{PositionList}
 use Rattle.tap_trace.specs.declared.trace.RingPart.{RingPart}
 use Rattle.tap_trace.specs.declared.trace.StepLine.{StepLine}
 use Rattle.tap_trace.specs.declared.trace.Trace.{Trace}
-use Rattle.trace_text.specs.Fits.{FitAnswer, FitFate, FitKind, FitName, FitOp, Is16, Is32, Is64, IsRing}
+use Rattle.trace_words.specs.Fits.{FitAnswerLine, FitOpLine, FitPlace, FitStep, FitUsed, Is16, Is64, IsRing}
 use Rattle.trace_text.specs.TraceText.{trace_text}
 
 -- ---- orders
@@ -52,21 +52,12 @@ ring_before a b = pair_before a.vhost a.ring b.vhost b.ring
 
 -- ---- parts
 
-abbrev pub FitOpLine : OpLine → Type 0
-FitOpLine o = Is64 o.version × Is32 o.command × FitOp o.text
-
-abbrev pub FitAnswerLine : AnswerLine → Type 0
-FitAnswerLine a = Is16 a.actor × Is32 a.command × Is64 a.seen × FitAnswer a.answer
-
 pub record FitPhase (p : PhasePart) : Type 0 where
   pub actors : Is16 p.actors
   pub ops : AllByRecursion FitOpLine p.ops
   pub ops_rise : IsTrue (rises op_before p.ops)
   pub answers : AllByRecursion FitAnswerLine p.answers
   pub answers_rise : IsTrue (rises answer_before p.answers)
-
-abbrev pub FitPlace : PlaceLine → Type 0
-FitPlace l = Is64 l.place × Is16 l.epoch × FitName l.name × Is32 l.len × FitFate l.fate
 
 pub record FitFile (f : FilePart) : Type 0 where
   pub file : Is16 f.file
@@ -75,14 +66,8 @@ pub record FitFile (f : FilePart) : Type 0 where
   pub lines : AllByRecursion FitPlace f.lines
   pub lines_rise : IsTrue (rises place_before f.lines)
 
-abbrev pub FitStep : StepLine → Type 0
-FitStep s = Is16 s.actor × Is32 s.command × FitKind s.kind
-
 abbrev pub FitGuest : GuestPart → Type 0
 FitGuest g = Is16 g.guest × AllByRecursion FitStep g.steps
-
-abbrev pub FitUsed : ℕ × ℕ × ℕ → Type 0
-FitUsed u = Is16 u.0 × Is16 u.1 × Is32 u.2
 
 abbrev pub FitList : PositionList → Type 0
 FitList l = Is16 l.base × AllByRecursion FitUsed l.used

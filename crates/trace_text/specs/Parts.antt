@@ -5,14 +5,12 @@ use Rattle.std.specs.Fmt.{decimal}
 use Rattle.tap_trace.specs.declared.trace.FilePart.{FilePart}
 use Rattle.tap_trace.specs.declared.trace.GuestPart.{GuestPart}
 use Rattle.tap_trace.specs.declared.trace.PhasePart.{PhasePart}
-use Rattle.tap_trace.specs.declared.trace.PlaceLine.{PlaceLine}
 use Rattle.tap_trace.specs.declared.trace.PositionList.{PositionList}
 use Rattle.tap_trace.specs.declared.trace.RingPart.{RingPart}
-use Rattle.scen_words.specs.Field.{frame_name}
-use Rattle.trace_text.specs.Answers.{answer_lines}
-use Rattle.trace_text.specs.Causes.{fate_fields}
-use Rattle.trace_text.specs.Operations.{op_line}
-use Rattle.trace_text.specs.Steps.{step_line}
+use Rattle.trace_words.specs.Answers.{answer_lines}
+use Rattle.trace_words.specs.Operations.{op_line}
+use Rattle.trace_words.specs.Places.{place_line, used_line}
+use Rattle.trace_words.specs.Steps.{step_line}
 
 -- the phase with this number, `phase P ACTORS`: its operations, and then its answers
 abbrev pub phase_part : ℕ → PhasePart → List (List (List ℕ))
@@ -24,10 +22,6 @@ abbrev pub phase_parts : ℕ → List PhasePart → List (List (List ℕ))
 phase_parts number [] = []
 phase_parts number (p ∷ ps) = phase_part number p ++ phase_parts (suc number) ps
 
--- `line PLACE EPOCH NAME LEN FATE`
-abbrev pub place_line : PlaceLine → List (List ℕ)
-place_line l = codes "line" ∷ decimal l.place ∷ decimal l.epoch ∷ frame_name l.name ∷ decimal l.len ∷ fate_fields l.fate
-
 -- `file F CLAIMED FREED`, and its places
 abbrev pub file_part : FilePart → List (List (List ℕ))
 file_part f = (codes "file" ∷ decimal f.file ∷ decimal f.claimed ∷ decimal f.freed ∷ []) ∷ map place_line f.lines
@@ -35,10 +29,6 @@ file_part f = (codes "file" ∷ decimal f.file ∷ decimal f.claimed ∷ decimal
 -- `guest G`, and the steps on it
 abbrev pub guest_part : GuestPart → List (List (List ℕ))
 guest_part g = (codes "guest" ∷ decimal g.guest ∷ []) ∷ map step_line g.steps
-
--- `used POSITION HEAD LEN`
-abbrev pub used_line : ℕ × ℕ × ℕ → List (List ℕ)
-used_line u = codes "used" ∷ decimal u.0 ∷ decimal u.1 ∷ decimal u.2 ∷ []
 
 -- `base N`, and the published chains
 abbrev pub list_part : PositionList → List (List (List ℕ))

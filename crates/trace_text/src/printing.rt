@@ -2,24 +2,21 @@
 
 ghost use Rattle.std.specs.Prelude.{◌≡◌, ◌++◌, OnOk, IfOk, map, string_bytes};
 ghost use Rattle.std.specs.List.{flat_map};
-ghost use Rattle.scen_words.specs.Field.{line, text};
-ghost use Rattle.trace_text.specs.Answers.{answer_lines};
-ghost use Rattle.trace_text.specs.Operations.{op_line};
-ghost use Rattle.trace_text.specs.Parts.{file_part, guest_part, list_part, phase_part, phase_parts, place_line, ring_part, used_line};
-ghost use Rattle.trace_text.specs.Steps.{step_line};
+ghost use Rattle.scen_words.specs.Field.{text};
+ghost use Rattle.trace_words.specs.Answers.{answer_lines};
+ghost use Rattle.trace_words.specs.Operations.{op_line};
+ghost use Rattle.trace_text.specs.Parts.{file_part, guest_part, list_part, phase_part, phase_parts, ring_part};
+ghost use Rattle.trace_words.specs.Places.{place_line, used_line};
+ghost use Rattle.trace_words.specs.Steps.{step_line};
 ghost use Rattle.trace_text.specs.TraceText.{trace_text};
 
-use crate::answers::put_answer;
-use crate::dropped::put_fated;
-use crate::operations::put_op;
-use crate::shown::FrameName;
-use crate::steps::put_step;
 use std::alloc::{AllocError, Global};
 use std::fmt::Write;
 use tap_trace::{
     AnswerLine, FilePart, GuestPart, OpLine, PhasePart, PlaceLine, PositionList, RingPart,
     StepLine, Trace,
 };
+use trace_words::{put_answer, put_op, put_place, put_step};
 
 fn put_ops(out: &mut String, ops: &[OpLine]) -> Result<(), AllocError>
     ensures { OnOk result (string_bytes out.new ≡ string_bytes out.old ++ text (map op_line ops.now)) }
@@ -54,19 +51,6 @@ fn put_phases(out: &mut String, phases: &[PhasePart]) -> Result<(), AllocError>
         put_phase(out, number, phase)?;
     }
     Ok(())
-}
-
-fn put_place(out: &mut String, place: &PlaceLine) -> Result<(), AllocError>
-    ensures { OnOk result (string_bytes out.new ≡ string_bytes out.old ++ line (place_line place.now)) }
-{
-    write!(
-        out,
-        "line {} {} {} ",
-        place.place,
-        place.epoch,
-        FrameName(place.name)
-    )?;
-    put_fated(out, place.len, place.fate)
 }
 
 fn put_places(out: &mut String, places: &[PlaceLine]) -> Result<(), AllocError>

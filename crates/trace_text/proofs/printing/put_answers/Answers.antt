@@ -1,4 +1,4 @@
-use Rattle.trace_text.specs.Answers.{answer_lines}
+use Rattle.trace_words.specs.Answers.{answer_lines}
 use Rattle.trace_text.proofs.Loops.{text_more_parts}
 use Rattle.trace_text.proofs.printing.put_answers.Goals as goal
 

@@ -1,7 +1,7 @@
 use Rattle.std.proofs.Common.{◌≡◌, ◌++◌, take, string_bytes}
 use Rattle.std.specs.List.{flat_map}
 use Rattle.scen_words.specs.Field.{text}
-use Rattle.trace_text.specs.Answers.{answer_lines}
+use Rattle.trace_words.specs.Answers.{answer_lines}
 use Rattle.trace_text.proofs.printing.put_answers.Given as goal
 
 abbrev pub invariant-loop-answer : goal.invariant-loop-answer

@@ -1,4 +1,4 @@
-use Rattle.trace_text.specs.Operations.{op_line}
+use Rattle.trace_words.specs.Operations.{op_line}
 use Rattle.trace_text.proofs.Loops.{text_more}
 use Rattle.trace_text.proofs.printing.put_ops.Goals as goal
 

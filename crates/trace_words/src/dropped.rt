@@ -3,7 +3,7 @@
 ghost use Rattle.std.specs.Prelude.{◌≡◌, ◌++◌, ◌∷◌, OnOk, string_bytes, codes, decimal};
 ghost use Rattle.std.specs.List.{join_with_byte};
 ghost use Rattle.scen_words.specs.Field.{line};
-ghost use Rattle.trace_text.specs.Causes.{cause_fields, discard_fields, fate_fields};
+ghost use Rattle.trace_words.specs.Causes.{cause_fields, discard_fields, fate_fields};
 
 use crate::shown::flag;
 use std::alloc::AllocError;

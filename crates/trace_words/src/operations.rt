@@ -2,7 +2,7 @@
 
 ghost use Rattle.std.specs.Prelude.{◌≡◌, ◌++◌, OnOk, string_bytes};
 ghost use Rattle.scen_words.specs.Field.{line};
-ghost use Rattle.trace_text.specs.Operations.{op_fields, op_line, side_word};
+ghost use Rattle.trace_words.specs.Operations.{op_fields, op_line, side_word};
 
 use crate::shown::{Hash, NumberOrDash, four_digits};
 use scen_words::put_command;

@@ -4,7 +4,7 @@ ghost use Rattle.std.specs.Prelude.{◌≡◌, ◌++◌, ◌∷◌, OnOk, string
 ghost use Rattle.std.specs.List.{flat_map, join_with_byte};
 ghost use Rattle.std.specs.Fmt.{decimal};
 ghost use Rattle.scen_words.specs.Field.{line, text};
-ghost use Rattle.trace_text.specs.Answers.{answer_fields, answer_line, answer_lines, chain_line, end_fields, harvested, lines_behind};
+ghost use Rattle.trace_words.specs.Answers.{answer_fields, answer_line, answer_lines, chain_line, end_fields, harvested, lines_behind};
 
 use crate::causes::{put_drive, put_tap, put_vhost};
 use crate::dropped::put_dropped;

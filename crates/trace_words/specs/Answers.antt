@@ -10,8 +10,8 @@ use Rattle.tap_trace.specs.declared.turn.ChainText.TheVariants.{Got, Refused}
 use Rattle.tap_trace.specs.declared.turn.TurnText.{TurnText}
 use Rattle.tap_trace.specs.declared.turn.TurnText.TheVariants as ends
 use Rattle.scen_words.specs.Field.{frame_name}
-use Rattle.trace_text.specs.Causes.{bad_number, cause_fields, drive_fields, tap_fields, vhost_fields}
-use Rattle.trace_text.specs.Operations.{hex8}
+use Rattle.trace_words.specs.Causes.{bad_number, cause_fields, drive_fields, tap_fields, vhost_fields}
+use Rattle.trace_words.specs.Operations.{hex8}
 
 -- how a turn ended
 abbrev pub end_fields : TurnText → List (List ℕ)

@@ -1,4 +1,4 @@
--- This project's own: which operations, answers, steps and lines a text can stand for. Numbers are held to the types of
+-- This project's own: which operations, answers, places and steps a text can stand for. Numbers are held to the types of
 -- the fields.
 use Rattle.std.specs.Prelude.{ℕ, ◌^◌, ◌<◌, Bool, true, false, IsTrue, List, [], ◌∷◌, Option, Some, None}
 use Rattle.std.specs.List.{AllByRecursion}
@@ -22,8 +22,12 @@ use Rattle.tap_trace.specs.declared.causes.VhostText.{VhostText}
 use Rattle.tap_trace.specs.declared.causes.VhostText.TheVariants.{EHDR}
 use Rattle.tap_trace.specs.declared.kind.Kind.{Kind}
 use Rattle.tap_trace.specs.declared.kind.Kind.TheVariants as kind
+use Rattle.tap_trace.specs.declared.trace.AnswerLine.{AnswerLine}
+use Rattle.tap_trace.specs.declared.trace.OpLine.{OpLine}
 use Rattle.tap_trace.specs.declared.trace.OpText.{OpText}
 use Rattle.tap_trace.specs.declared.trace.OpText.TheVariants as op
+use Rattle.tap_trace.specs.declared.trace.PlaceLine.{PlaceLine}
+use Rattle.tap_trace.specs.declared.trace.StepLine.{StepLine}
 use Rattle.tap_trace.specs.declared.turn.ChainText.{ChainText}
 use Rattle.tap_trace.specs.declared.turn.ChainText.TheVariants.{Got, Refused}
 use Rattle.tap_trace.specs.declared.turn.TurnText.{TurnText}
@@ -176,3 +180,20 @@ FitKind kind.Peek = Unit {0}
 FitKind (kind.Drive vhost ring) = IsRing vhost ring
 FitKind (kind.Post vhost ring) = IsRing vhost ring
 FitKind (kind.Harvest vhost ring) = IsRing vhost ring
+
+-- ---- lines
+
+abbrev pub FitOpLine : OpLine → Type 0
+FitOpLine o = Is64 o.version × Is32 o.command × FitOp o.text
+
+abbrev pub FitAnswerLine : AnswerLine → Type 0
+FitAnswerLine a = Is16 a.actor × Is32 a.command × Is64 a.seen × FitAnswer a.answer
+
+abbrev pub FitPlace : PlaceLine → Type 0
+FitPlace l = Is64 l.place × Is16 l.epoch × FitName l.name × Is32 l.len × FitFate l.fate
+
+abbrev pub FitStep : StepLine → Type 0
+FitStep s = Is16 s.actor × Is32 s.command × FitKind s.kind
+
+abbrev pub FitUsed : ℕ × ℕ × ℕ → Type 0
+FitUsed u = Is16 u.0 × Is16 u.1 × Is32 u.2

@@ -2,7 +2,7 @@
 
 ghost use Rattle.std.specs.Prelude.{◌≡◌, ◌++◌, OnOk, string_bytes};
 ghost use Rattle.scen_words.specs.Field.{line};
-ghost use Rattle.trace_text.specs.Steps.{kind_fields, step_line};
+ghost use Rattle.trace_words.specs.Steps.{kind_fields, step_line};
 
 use crate::shown::{NameOrDash, flag};
 use std::alloc::AllocError;

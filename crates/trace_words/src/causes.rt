@@ -2,7 +2,7 @@
 
 ghost use Rattle.std.specs.Prelude.{◌≡◌, ◌++◌, ◌∷◌, OnOk, string_bytes, codes};
 ghost use Rattle.std.specs.List.{join_with_byte};
-ghost use Rattle.trace_text.specs.Causes.{big_word, busy_word, drive_fields, invalid_word, tap_fields, vhost_fields};
+ghost use Rattle.trace_words.specs.Causes.{big_word, busy_word, drive_fields, invalid_word, tap_fields, vhost_fields};
 
 use std::alloc::AllocError;
 use std::fmt::Write;

@@ -7,7 +7,7 @@ use Rattle.tap_trace.specs.declared.kind.Kind.TheVariants as kind
 use Rattle.tap_trace.specs.declared.trace.StepLine.{StepLine}
 use Rattle.text_fields.specs.Fields.{dash}
 use Rattle.scen_words.specs.Field.{frame_name}
-use Rattle.trace_text.specs.Causes.{flag}
+use Rattle.trace_words.specs.Causes.{flag}
 
 -- the name of a frame, or `-` for one that was refused
 abbrev pub name_or_dash : Option Name → List ℕ

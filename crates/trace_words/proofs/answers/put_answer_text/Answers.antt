@@ -1,7 +1,7 @@
 use Rattle.std.proofs.Common.{string_bytes}
 use Rattle.std.proofs.lemmas.Result.{IfOk-equal}
-use Rattle.trace_text.proofs.Spaced.{harvest_written}
-use Rattle.trace_text.proofs.answers.put_answer_text.Goals as goal
+use Rattle.trace_words.proofs.Spaced.{harvest_written}
+use Rattle.trace_words.proofs.answers.put_answer_text.Goals as goal
 
 pub returns-in_ok-push_str-in-Harvested : goal.returns-in_ok-push_str-in-Harvested
 returns-in_ok-push_str-in-Harvested c =

@@ -1,7 +1,7 @@
 //! What stands in single fields of a trace.
 
 ghost use Rattle.std.specs.Prelude.{◌≡◌};
-ghost use Rattle.trace_text.specs.Causes.{bad_number, flag};
+ghost use Rattle.trace_words.specs.Causes.{bad_number, flag};
 
 use std::fmt;
 use tap_frame::{BadFrame, Name};
@@ -28,7 +28,7 @@ pub struct NameOrDash(pub Option<Name>);
 
 impl fmt::Display for NameOrDash {
     ghost use Rattle.std.specs.Prelude.{Some};
-    ghost use Rattle.trace_text.specs.Steps.{name_or_dash};
+    ghost use Rattle.trace_words.specs.Steps.{name_or_dash};
 
     ghost output = { λ n. Some (name_or_dash n.0) };
 
@@ -46,7 +46,7 @@ pub struct NumberOrDash(pub Option<u16>);
 
 impl fmt::Display for NumberOrDash {
     ghost use Rattle.std.specs.Prelude.{Some};
-    ghost use Rattle.trace_text.specs.Operations.{number_or_dash};
+    ghost use Rattle.trace_words.specs.Operations.{number_or_dash};
 
     ghost output = { λ n. Some (number_or_dash n.0) };
 
@@ -79,7 +79,7 @@ pub struct Hash(pub u32);
 
 impl fmt::Display for Hash {
     ghost use Rattle.std.specs.Prelude.{Some};
-    ghost use Rattle.trace_text.specs.Operations.{hex8};
+    ghost use Rattle.trace_words.specs.Operations.{hex8};
 
     ghost output = { λ h. Some (hex8 h.0) };
 

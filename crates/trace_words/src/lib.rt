@@ -1,0 +1,24 @@
+//! The lines of traces: what a line says by itself, and how it is written.
+//!
+//! A line is one [`Said`]: the head of a part, an operation, an answer or a line behind one, a place, a step, a
+//! published chain, or the end. To a contract it is a record of numbers and lists.
+//!
+//! `specs/Said.antt` has the fields of each line and which of them fit their types; `specs/Operations.antt`,
+//! `specs/Answers.antt`, `specs/Places.antt` and `specs/Steps.antt` the fields of the longer ones, `specs/Causes.antt`
+//! the causes, and `specs/Fits.antt` the ranges of the numbers.
+#![tactic(auto)]
+
+mod answers;
+mod causes;
+mod dropped;
+mod operations;
+mod places;
+mod said;
+mod shown;
+mod steps;
+
+pub use answers::put_answer;
+pub use operations::put_op;
+pub use places::put_place;
+pub use said::Said;
+pub use steps::put_step;
