@@ -1,11 +1,10 @@
 -- A line with one entry that stands elsewhere, or with one more.
-use Rattle.std.proofs.Common.{◌≡◌, ◌≢◌, ◌⊎◌, ℕ, zero, suc, ◌+◌, ◌-◌, ◌≤◌, ◌<◌, List, [], ◌∷◌, ◌++◌, length, Bool, true, false, Option, Some, None, inl, inr, ⊎_elim, refl, sym, ap, ◌∙◌, subst, true≢false, arith}
-use Rattle.std.specs.Prelude.{if◌then◌else◌, not, slice_get, option_map}
+use Rattle.std.proofs.Common.{◌≡◌, ◌⊎◌, ℕ, zero, suc, ◌+◌, ◌≤◌, ◌<◌, List, [], ◌∷◌, ◌++◌, length, Bool, true, false, Option, Some, None, inl, inr, ⊎_elim, refl, sym, ap, ◌∙◌, subst, true≢false, arith}
+use Rattle.std.specs.Prelude.{if◌then◌else◌, slice_get, option_map}
 use Rattle.std.specs.List.{AllByRecursion}
 use Rattle.std.specs.Option.{option_map_or}
 use Rattle.tap_ledger.specs.declared.fate.Fate.{Fate}
-use Rattle.tap_world.specs.Then.{◌>>=◌}
-use Rattle.tap_world.specs.Line.{Entry, Standing, count, entry_ready, first_that, in_batch, in_ring, is_kept, is_ready, last_that, or_here}
+use Rattle.tap_world.specs.Line.{Entry, Standing, count, first_that, in_batch, in_ring, is_kept, last_that, or_here}
 use Rattle.tap_world.specs.Line.Standing.{Batched, Claimed, Cut, Out, Ready}
 use Rattle.tap_world.specs.LineSteps.{filled, ready_front, restand}
 use Rattle.tap_world.specs.Sound.{ComesLast, InThreeParts, NeverFall, is_cut, rank}
@@ -162,8 +161,9 @@ parts_restand zero s (x ∷ xs) e at lets le cut p =
     let here : rank s ≤ rank x.stands = subst (λ (y : Entry). rank s ≤ rank y.stands) (sym same) le in
     (⊎_elim (λ c. absurd (true≢false (sym c ∙ ap (λ (y : Entry). is_cut y.stands) same ∙ cut))) (λ h. inr (comes_weaker (rank s) (rank x.stands) xs here h)) p.0, p.1)
 parts_restand (suc i) s (x ∷ xs) e at lets le cut p = (
-    ⊎_elim (λ c. inl c) (λ h. ⊎_elim (λ c. inl c) (λ m. inr (comes_restand (rank x.stands) i s xs m h)) (lets 0 x (omega arith) refl)) p.0,
-    parts_restand i s xs e at (λ j d lt g. lets (suc j) d (omega (arith, lt)) g) le cut p.1)
+  ⊎_elim (λ c. inl c) (λ h. ⊎_elim (λ c. inl c) (λ m. inr (comes_restand (rank x.stands) i s xs m h)) (lets 0 x (omega arith) refl)) p.0,
+  parts_restand i s xs e at (λ j d lt g. lets (suc j) d (omega (arith, lt)) g) le cut p.1,
+)
 
 pub parts_cut : (i : ℕ) (line : List Entry) → InThreeParts line → InThreeParts (restand i Cut line)
 parts_cut i [] p = tt

@@ -1,23 +1,23 @@
 -- What the changes of a file keep.
-use Rattle.std.proofs.Common.{◌≡◌, ◌≢◌, ◌⊎◌, ℕ, zero, suc, ◌+◌, ◌-◌, ◌^◌, ◌≤◌, ◌<◌, List, [], ◌∷◌, ◌++◌, length, Bool, true, false, Option, Some, None, inl, inr, ⊎_elim, refl, sym, ap, ◌∙◌, subst, true≢false, arith, length-append}
-use Rattle.std.specs.Prelude.{if◌then◌else◌, ◌&&◌, ◌||◌, ◌==◌, not, is_none, is_some, nat_lt, nat_le, slice_get, max}
+use Rattle.std.proofs.Common.{◌≡◌, ◌≢◌, ℕ, zero, suc, ◌+◌, ◌-◌, ◌^◌, ◌≤◌, ◌<◌, List, [], ◌∷◌, ◌++◌, length, Bool, true, false, Option, Some, None, ⊎_elim, refl, sym, ap, ◌∙◌, subst, true≢false, arith, length-append}
+use Rattle.std.specs.Prelude.{if◌then◌else◌, ◌&&◌, ◌||◌, ◌==◌, not, is_none, is_some, nat_lt, slice_get, max}
 use Rattle.std.specs.List.{AllByRecursion}
 use Rattle.std.specs.Option.{option_map_or}
 use Rattle.std.proofs.lemmas.Bool.Decides.{eqb_tells, leb_tells}
 use Rattle.tap_frame.specs.declared.name.Name.{Name}
 use Rattle.tap_ledger.specs.declared.fate.Fate.{Fate}
-use Rattle.tap_world.specs.Then.{◌>>=◌, only_if}
+use Rattle.tap_world.specs.Then.{only_if}
 use Rattle.tap_world.specs.Line.{Entry, File, Standing, claimed, count, first_that, freed, has_batch, has_claim, in_batch, in_ring, is_empty, is_full, is_gone, is_kept, is_over, is_spent, last_that}
 use Rattle.tap_world.specs.Line.Standing.{Batched, Claimed, Cut, Out, Ready}
 use Rattle.tap_world.specs.LineSteps.{Change, changed, filled, is_claim_of, may_leave, moves_to, ready_front, restand}
 use Rattle.tap_world.specs.LineSteps.Change.{Claims, Cuts, Leaves, Moves, Owned, Puts, PutsBack, Reopens, Shuts, Sizes, Takes}
-use Rattle.tap_world.specs.Sound.{HasEpochs, HasRoom, InThreeParts, NeverFall, has_left, is_cut, rank}
+use Rattle.tap_world.specs.Sound.{HasEpochs, HasRoom, InThreeParts, NeverFall, has_left}
 use Rattle.tap_sound.specs.Kept.{IsOrdered}
 use Rattle.tap_sound.proofs.Kit.{only_some, some_same, then_some}
 use Rattle.tap_world.specs.Effect.OnFiles.{OnFile}
 use Rattle.tap_sound.proofs.Tame.{HasGoodFate, KeepsSize}
 use Rattle.tap_sound.proofs.Taken.{if_some}
-use Rattle.tap_sound.proofs.Entries.{IsFirst, all_at, all_more, all_restand, all_weaker, batch_is, count_more, count_none, count_restand, fall_more, fall_restand, filled_keeps, first_is, front_is, last_is, length_restand, none_is, one_if, parts_cut, parts_more, parts_moved, parts_out, parts_put, ring_rank}
+use Rattle.tap_sound.proofs.Entries.{IsFirst, all_more, all_restand, all_weaker, batch_is, count_more, count_none, count_restand, fall_more, fall_restand, filled_keeps, first_is, front_is, last_is, length_restand, none_is, one_if, parts_cut, parts_more, parts_moved, parts_out, parts_put, ring_rank}
 
 -- ---- a change taken apart: an entry more, an entry that stands elsewhere, or the same line
 
@@ -218,9 +218,9 @@ course_ordered f g (Grows actor name epoch len unshut spent full is) h =
     let l = length-append f.line (e ∷ []) in
     let b = h.batch in
     let places : claimed f + 1 ≤ 2 ^ 40 - 1 = ⊎_elim
-            (λ t. absurd (true≢false (sym t.0 ∙ spent)))
-            (λ t. below (claimed f) (2 ^ 40 - 1) t.1 h.places)
-            (eqb_tells (claimed f) (2 ^ 40 - 1)) in
+    (λ t. absurd (true≢false (sym t.0 ∙ spent)))
+    (λ t. below (claimed f) (2 ^ 40 - 1) t.1 h.places)
+    (eqb_tells (claimed f) (2 ^ 40 - 1)) in
     subst IsOrdered is (record { parts = parts_more f.line e refl h.parts; batch = omega (arith, c, b); places = omega (arith, l, places) })
   where
     below : (c n : ℕ) → c ≢ n → c ≤ n → c + 1 ≤ n

@@ -1,17 +1,12 @@
 -- Each event that is allowed is one that is left to its command, and what is left then follows.
-use Rattle.std.proofs.Common.{◌≡◌, ◌⊎◌, ℕ, zero, suc, ◌+◌, List, [], ◌∷◌, Bool, true, false, Option, Some, None, inl, inr, ⊎_elim, refl, sym, ap, ◌∙◌, subst}
+use Rattle.std.proofs.Common.{◌≡◌, ℕ, List, [], ◌∷◌, Bool, true, false, Option, Some, None, inl, inr, ⊎_elim, refl, sym, ap, ◌∙◌, subst}
 use Rattle.std.proofs.lemmas.Bool.Decides.{eqb_tells}
 use Rattle.std.proofs.Common.{true≢false}
-use Rattle.std.specs.Prelude.{if◌then◌else◌, ◌==◌, ◌&&◌, is_none, is_some, nat_lt, slice_get, slice_index_or}
+use Rattle.std.specs.Prelude.{if◌then◌else◌, is_none, nat_lt, slice_index_or}
 use Rattle.std.specs.Option.{option_map_or}
-use Rattle.guest_mem.specs.Memory.{Contents}
 use Rattle.tap_frame.specs.declared.name.Name.{Name}
 use Rattle.tap_frame.specs.declared.reading.BadFrame.{BadFrame}
-use Rattle.tap_ledger.specs.declared.act.Act.{Act}
-use Rattle.tap_ledger.specs.declared.fate.Cause.{Cause}
-use Rattle.tap_ledger.specs.declared.hand.Hand.TheVariants as hand
 use Rattle.tap_steer.specs.declared.error.TapErr.{TapErr}
-use Rattle.tap_steer.specs.declared.files.Attachment.{Attachment}
 use Rattle.tap_steer.specs.declared.operation.Op.{Op}
 use Rattle.tap_steer.specs.declared.operation.Op.TheVariants as op
 use Rattle.tap_steer.specs.declared.operation.TheConstants.{IFF_ATTACH_QUEUE}
@@ -20,50 +15,32 @@ use Rattle.tap_steer.specs.declared.selection.Select.TheVariants as select
 use Rattle.tap_steer.specs.Rules.{refuse}
 use Rattle.tap_steer.specs.Select as steer
 use Rattle.tap_steer.specs.Table.{Table, file_at, is_set}
-use Rattle.vhost_dev.specs.declared.error.VhostErr.{VhostErr}
-use Rattle.vring_turns.specs.declared.end.End.{End}
-use Rattle.vring_turns.specs.declared.stage.RxStage.{RxStage}
-use Rattle.vring_turns.specs.declared.stage.RxStage.TheVariants as rx
-use Rattle.vring_turns.specs.declared.stage.TxStage.{TxStage}
-use Rattle.vring_turns.specs.declared.stage.TxStage.TheVariants as tx
-use Rattle.vring_turns.specs.RxTurn.{RxState, RxTurn, rx_step}
-use Rattle.vring_turns.specs.TxTurn.{TxState, TxTurn, tx_step}
 use Rattle.scen_words.specs.declared.command.Command.{Command}
 use Rattle.scen_words.specs.declared.command.Command.TheVariants as command
 use Rattle.tap_trace.specs.declared.causes.TapText.{TapText}
-use Rattle.tap_trace.specs.declared.answer.Answer.{Answer}
-use Rattle.tap_trace.specs.declared.turn.ChainText.{ChainText}
 use Rattle.tap_world.specs.declared.event.EventKind.{EventKind}
 use Rattle.tap_world.specs.declared.event.EventKind.TheVariants as event
-use Rattle.tap_world.specs.declared.event.Found.{Found}
-use Rattle.tap_world.specs.Then.{◌>>=◌, only_if}
 use Rattle.tap_world.specs.ByNumber.{at}
-use Rattle.tap_world.specs.Grammar.{Grammar, HasForm, Perhaps, Spells}
-use Rattle.tap_world.specs.Grammar.Grammar.{Many, Nothing, One, ◌⨾◌, ◌or◌}
+use Rattle.tap_world.specs.Grammar.{Grammar, HasForm, Perhaps}
+use Rattle.tap_world.specs.Grammar.Grammar.{One, ◌⨾◌}
 use Rattle.tap_world.specs.Commands.{attach, detach, form_of}
 use Rattle.tap_world.specs.Frames.{Front, bad_in, ether_in, least_in, sent_bytes, sent_front}
 use Rattle.tap_trace.specs.declared.answer.Answer.TheVariants as answer
 use Rattle.tap_world.specs.declared.event.Found.TheVariants as found
-use Rattle.tap_world.specs.Setup.{Numbered, Setup, op_of}
-use Rattle.tap_world.specs.Line.{File, has_batch, is_full, is_gone, is_over, is_spent}
-use Rattle.tap_world.specs.LineSteps.{ready_front}
+use Rattle.tap_world.specs.Setup.{Numbered, Setup}
+use Rattle.tap_world.specs.Line.{File}
 use Rattle.tap_world.specs.Guests.{Vhost}
 use Rattle.tap_world.specs.World.{Actor, Doing, World, name_of, newest, table}
-use Rattle.tap_world.specs.World.Doing.{Backed, Backs, Begun, Changes, Disowned, Given, Hosts, Learns, Opened, Opens, Owns, Placed, Purges, Reads, Receives, Released, Resizes, Routed, Shrinks, Teaches, Transmits, Unbacked, Withdrawn, Withdraws}
+use Rattle.tap_world.specs.World.Doing.{Begun, Changes, Hosts, Opens, Reads, Routed, Withdraws}
 use Rattle.tap_world.specs.Effect.{Effect, Onward, only}
 use Rattle.tap_world.specs.Effect.Onward.{Ends, Goes, Stays}
-use Rattle.tap_world.specs.Scripts.{hand_next, is_kind, kind_number, next_kind, purge_next, read_next, rx_next_kind, send_next, shrink_next, tx_next_kind}
+use Rattle.tap_world.specs.Scripts.{is_kind, kind_number}
 use Rattle.tap_world.specs.Step as rows
 use Rattle.tap_world.specs.Step.{row}
 use Rattle.tap_world.specs.StepBackend as back
-use Rattle.tap_world.specs.StepControl as control
-use Rattle.tap_world.specs.StepRing as ring
 use Rattle.tap_world.specs.StepTable as tables
-use Rattle.tap_world.specs.StepTurns as rx_turns
-use Rattle.tap_world.specs.StepTransmits as tx_turns
-use Rattle.tap_sound.proofs.Kit.{WhereSome, either, where_if, where_only, where_some, where_then}
-use Rattle.tap_sound.proofs.Left.{left_of, rx_closes, rx_left, rx_takes, tx_left}
-use Rattle.tap_sound.proofs.Rows.{RxGoes, TxGives, rx_kind, rx_step_fits, tx_kind, tx_step_fits}
+use Rattle.tap_sound.proofs.Kit.{WhereSome, where_only, where_then}
+use Rattle.tap_sound.proofs.Left.{left_of}
 
 -- ---- what a row has to show
 
@@ -111,7 +88,7 @@ of_number event.Peek = refl
 of_number event.Drive = refl
 of_number event.HostIn = refl
 
-same_kind : (k j : EventKind) → is_kind k (Some j) ≡ true → k ≡ j
+pub same_kind : (k j : EventKind) → is_kind k (Some j) ≡ true → k ≡ j
 same_kind k j e = ⊎_elim
     (λ t. sym (of_number k) ∙ ap (λ n. slice_index_or all_kinds n event.Look) (sym t.1) ∙ of_number j)
     (λ t. absurd (true≢false (sym e ∙ t.0)))
@@ -181,7 +158,6 @@ looks_back : (w : World) (actor vhost r : ℕ) (file : Option ℕ) (v : Vhost) (
     → Follows Begun (command.Backend vhost r file) event.Look (back.back_seen w actor vhost r v x)
 looks_back w actor vhost r file v None = λ es h. (refl, h)
 looks_back w actor vhost r file v (Some e) = λ es h. (refl, h)
-
 
 -- ---- the first event of a command
 

@@ -1,7 +1,7 @@
 -- Forms of lists of events, taken apart and put together.
-use Rattle.std.proofs.Common.{◌≡◌, ◌⊎◌, ℕ, zero, suc, List, [], ◌∷◌, Bool, true, false, inl, inr, ⊎_elim}
+use Rattle.std.proofs.Common.{◌⊎◌, ℕ, zero, suc, List, [], ◌∷◌, Bool, true, false, inl, inr, ⊎_elim}
 use Rattle.tap_world.specs.declared.event.EventKind.{EventKind}
-use Rattle.tap_world.specs.Grammar.{Begins, Grammar, Lists, Some_of, Spells, Times}
+use Rattle.tap_world.specs.Grammar.{Grammar, Lists, Some_of, Spells, Times}
 use Rattle.tap_world.specs.Grammar.Grammar.{Many, Nothing, One, ◌⨾◌, ◌or◌}
 
 -- ---- a rest may grow
@@ -52,8 +52,8 @@ Side P Q false es = Q es
 pub distributes : (g : Grammar) (P Q : Lists) (es : List EventKind) → Spells g (λ ds. P ds ⊎ Q ds) es → Spells g P es ⊎ Spells g Q es
 distributes g P Q es h =
     let r = pulls g Bool (Side P Q) es
-        (weaken g (λ ds. P ds ⊎ Q ds) (λ ds. (b : Bool) × Side P Q b ds)
-        (λ ds. ⊎_elim (λ x. (true, x)) (λ x. (false, x))) es h) in
+    (weaken g (λ ds. P ds ⊎ Q ds) (λ ds. (b : Bool) × Side P Q b ds)
+    (λ ds. ⊎_elim (λ x. (true, x)) (λ x. (false, x))) es h) in
     go r.0 r.1
   where
     go : (b : Bool) → Spells g (Side P Q b) es → Spells g P es ⊎ Spells g Q es

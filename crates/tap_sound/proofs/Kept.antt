@@ -1,10 +1,9 @@
 -- What every event keeps of every file.
-use Rattle.std.proofs.Common.{◌≡◌, ℕ, suc, ◌+◌, ◌≤◌, List, [], ◌∷◌, ◌++◌, length, map, Bool, true, false, true≢false, Option, Some, None, refl, sym, ap, ◌∙◌, subst, arith, length-append}
+use Rattle.std.proofs.Common.{◌≡◌, ℕ, suc, ◌+◌, ◌≤◌, List, [], ◌∷◌, ◌++◌, length, map, true, false, true≢false, Option, Some, refl, sym, ap, ◌∙◌, subst, arith, length-append}
 use Rattle.std.specs.Prelude.{drop, slice_get}
 use Rattle.tap_world.specs.declared.event.Event.{Event}
 use Rattle.tap_world.specs.declared.event.Heard.{Heard}
-use Rattle.tap_world.specs.Then.{◌>>=◌}
-use Rattle.tap_world.specs.ByNumber.{at, with_at, with_nth}
+use Rattle.tap_world.specs.ByNumber.{at, with_nth}
 use Rattle.tap_world.specs.Setup.{Setup}
 use Rattle.tap_world.specs.Line.{File}
 use Rattle.tap_world.specs.LineSteps.{Change, changed}
@@ -41,7 +40,7 @@ files_keep P (OnFile file c) files after keep e each =
     subst (EachOf P) (some_same _ after g.2) (each_with_at P file g.0 files each (keep file c f.0 g.0 refl g.1 (each file f.0 f.1)))
 
 -- the files after an effect
-effect_files : (r : Effect) (actor : ℕ) (a : Actor) (n : ℕ) (w v : World) → with_effect r actor a n w ≡ Some v → files_after r.files w.files ≡ Some v.files
+pub effect_files : (r : Effect) (actor : ℕ) (a : Actor) (n : ℕ) (w v : World) → with_effect r actor a n w ≡ Some v → files_after r.files w.files ≡ Some v.files
 effect_files r actor a n w v e =
     let f = then_some (files_after r.files w.files) _ v e in
     let g = then_some (guests_after actor n r.guests w.guests) _ v f.2 in
@@ -53,7 +52,7 @@ pub step_keeps : (P : ℕ → File → Type 0) (s : Setup) (w : World) (x : Even
     → EachFile w P → EachFile u P
 step_keeps P s w x u t keep each =
     let between : EachOf P t.between.files = files_keep P t.effect.files w.files t.between.files keep
-            (effect_files t.effect x.actor t.actor x.command w t.between t.made) each in
+    (effect_files t.effect x.actor t.actor x.command w t.between t.made) each in
     subst (λ (q : World). EachOf P q.files) t.is (when_settled (λ (q : World). EachOf P q.files) t.between between (λ e end. between))
 
 pub every_event_keeps : (P : File → Type 0) → ((f g : File) → Course f g → P f → P g) → (s : Setup) (w : World) (x : Event) (u : World × Heard)
@@ -118,11 +117,11 @@ versions_are_kept s w x u e seen =
     let more : newest w ≤ m = omega arith in
     let le : t.actor.seen ≤ newest w = seen x.actor t.actor t.found in
     let after : SeenIn (with_nth x.actor (actor_after t.effect.onward t.actor) w.actors) m =
-        each_with_nth (λ i a. a.seen ≤ m) x.actor (actor_after t.effect.onward t.actor) w.actors
-        (λ i a at. let q = seen i a at in omega (arith, q, more)) (seen_after t.effect.onward t.actor (newest w) m le more h.3) in
+    each_with_nth (λ i a. a.seen ≤ m) x.actor (actor_after t.effect.onward t.actor) w.actors
+    (λ i a at. let q = seen i a at in omega (arith, q, more)) (seen_after t.effect.onward t.actor (newest w) m le more h.3) in
     let between : SeenIn t.between.actors (newest t.between) =
-        subst (λ (k : ℕ). SeenIn t.between.actors k) (sym n)
-        (subst (λ (actors : List Actor). SeenIn actors m) (sym (effect_actors t.effect x.actor t.actor x.command w t.between t.made)) after) in
+    subst (λ (k : ℕ). SeenIn t.between.actors k) (sym n)
+    (subst (λ (actors : List Actor). SeenIn actors m) (sym (effect_actors t.effect x.actor t.actor x.command w t.between t.made)) after) in
     subst (λ (q : World). SeenIn q.actors (newest q)) t.is
     (when_settled (λ (q : World). SeenIn q.actors (newest q)) t.between between
     (λ f end. each_with_nth (λ i a. a.seen ≤ newest t.between) f.actor (record f.state { script = drop 1 f.state.script; doing = Begun }) t.between.actors between
@@ -138,9 +137,9 @@ sizes_left k e = (refl, refl)
 same_table : (s : Setup) (w : World) (x : Event) (u : World) (t : IsStep s w x u) → t.effect.ops ≡ [] → table s u ≡ table s w
 same_table s w x u t none =
     let between : t.between.ops ≡ w.ops = effect_ops t.effect x.actor t.actor x.command w t.between t.made
-            ∙ ap (λ (ops : List Op). w.ops ++ map (λ (y : Op). record { phase = w.phase; actor = x.actor; command = x.command; op = y }) ops) none ∙ with_none w.ops in
+    ∙ ap (λ (ops : List Op). w.ops ++ map (λ (y : Op). record { phase = w.phase; actor = x.actor; command = x.command; op = y }) ops) none ∙ with_none w.ops in
     let after : u.ops ≡ w.ops = subst (λ (q : World). q.ops ≡ w.ops) t.is
-            (when_settled (λ (q : World). q.ops ≡ w.ops) t.between between (λ f end. between)) in
+    (when_settled (λ (q : World). q.ops ≡ w.ops) t.between between (λ f end. between)) in
     ap (λ (ops : List Published). after_all (opening_table s) (map (λ (p : Published). p.op) ops)) after
 
 pub room_is_kept : (s : Setup) (w : World) (x : Event) (u : World × Heard) → step s w x ≡ Some u → leaves_sizes x.kind ≡ true

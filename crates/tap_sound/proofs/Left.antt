@@ -1,5 +1,5 @@
 -- What is left of a command's events, by how far it has come.
-use Rattle.std.proofs.Common.{◌≡◌, ◌⊎◌, ℕ, zero, suc, List, [], ◌∷◌, Bool, true, false, Option, Some, None, inl, inr, ⊎_elim, refl}
+use Rattle.std.proofs.Common.{◌≡◌, ℕ, suc, List, [], ◌∷◌, Bool, true, false, Some, None, inl, inr, ⊎_elim, refl}
 use Rattle.vhost_queue.specs.Queue.{Queue}
 use Rattle.vring_turns.specs.declared.end.End.{End}
 use Rattle.vring_turns.specs.declared.end.End.TheVariants.{Again}
@@ -17,10 +17,10 @@ use Rattle.scen_words.specs.declared.command.Command.{Command}
 use Rattle.scen_words.specs.declared.command.Command.TheVariants as command
 use Rattle.std.specs.Prelude.{if◌then◌else◌, nat_le, ◌==◌}
 use Rattle.tap_world.specs.declared.event.EventKind.{EventKind}
-use Rattle.tap_world.specs.declared.event.EventKind.TheVariants.{Copy, Drive, Fetch, Hand, HostIn, Look, Notices, Out, Owner, Publish, PublishUsed, PutBack, Ready, Reopen, Resize, Shut}
-use Rattle.tap_world.specs.Grammar.{Grammar, HasForm, Lists, Perhaps, Some_of, Spells, Times}
+use Rattle.tap_world.specs.declared.event.EventKind.TheVariants.{Copy, Drive, Fetch, Hand, HostIn, Look, Notices, Out, Owner, Publish, PublishUsed, PutBack, Ready, Resize, Shut}
+use Rattle.tap_world.specs.Grammar.{Grammar, HasForm, Lists, Perhaps, Some_of, Spells}
 use Rattle.tap_world.specs.Grammar.Grammar.{Many, Nothing, One, ◌⨾◌, ◌or◌}
-use Rattle.tap_world.specs.Commands.{attach, backing, chain, chains, detach, finds, finds_nothing, form_of, frame, frames, hosting, published, purge, route, setting, shrink, taking}
+use Rattle.tap_world.specs.Commands.{attach, backing, chain, chains, detach, finds, finds_nothing, form_of, frames, hosting, published, purge, route, setting, shrink, taking}
 use Rattle.tap_world.specs.World.{Doing}
 use Rattle.tap_world.specs.World.Doing.{Backed, Backs, Begun, Changes, Disowned, Given, Hosts, Learns, Opened, Opens, Owns, Placed, Purges, Reads, Receives, Released, Resizes, Routed, Shrinks, Teaches, Transmits, Unbacked, Withdrawn, Withdraws}
 use Rattle.tap_sound.proofs.Forms.{distributes, pulls, some_many, weaken}

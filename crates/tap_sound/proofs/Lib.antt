@@ -18,3 +18,5 @@ mod TameRows
 mod Used
 mod Standing
 mod Stand
+mod Claiming
+mod Claims

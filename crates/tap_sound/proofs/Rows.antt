@@ -1,23 +1,15 @@
 -- Each event of a command is one that is left to it, and what is left then follows.
-use Rattle.std.proofs.Common.{◌≡◌, ◌⊎◌, ℕ, zero, suc, ◌+◌, List, [], ◌∷◌, Bool, true, false, Option, Some, None, inl, inr, ⊎_elim, refl, sym, ap, ◌∙◌, subst}
-use Rattle.std.specs.Prelude.{if◌then◌else◌, ◌==◌, ◌&&◌, is_none, is_some, length, nat_lt, slice_index_or}
-use Rattle.std.specs.Option.{option_map_or}
-use Rattle.tap_frame.specs.declared.name.Name.{Name}
+use Rattle.std.proofs.Common.{◌≡◌, ℕ, ◌+◌, List, [], ◌∷◌, Option, Some, None, inl, inr, refl, subst}
+use Rattle.std.specs.Prelude.{length, nat_lt}
 use Rattle.tap_frame.specs.declared.reading.BadFrame.{BadFrame}
-use Rattle.tap_ledger.specs.declared.fate.Cause.{Cause}
-use Rattle.tap_ledger.specs.declared.hand.Hand.{Hand}
 use Rattle.tap_ledger.specs.declared.hand.Hand.TheVariants as hand
 use Rattle.tap_ledger.specs.declared.act.Act.{Act}
-use Rattle.guest_mem.specs.Memory.{Contents}
 use Rattle.tap_frame.specs.Frame.{FrameValue}
 use Rattle.vring_walk.specs.declared.walk.Fetched.{Fetched}
 use Rattle.vring_walk.specs.declared.walk.Fetched.TheVariants as fetched
-use Rattle.vring_split.specs.declared.fault.RingFault.{RingFault}
 use Rattle.vhost_queue.specs.Queue.{Queue}
-use Rattle.vring_turns.specs.declared.end.End.{End}
 use Rattle.vring_turns.specs.declared.end.End.TheVariants.{Idle, Stopped}
 use Rattle.vring_turns.specs.declared.stage.After.{After}
-use Rattle.vring_turns.specs.declared.stage.After.TheVariants as after
 use Rattle.vring_turns.specs.declared.stage.RxStage.{RxStage}
 use Rattle.vring_turns.specs.declared.stage.RxStage.TheVariants as rx
 use Rattle.vring_turns.specs.declared.stage.TxStage.{TxStage}
@@ -31,13 +23,12 @@ use Rattle.vring_turns.specs.TxTurn as tt_
 use Rattle.vring_turns.specs.TxTurn.{TxState, TxTurn}
 use Rattle.tap_world.specs.declared.event.EventKind.{EventKind}
 use Rattle.tap_world.specs.declared.event.EventKind.TheVariants as event
-use Rattle.tap_world.specs.Grammar.{Grammar, HasForm, Lists, Perhaps, Some_of, Spells, Times}
-use Rattle.tap_world.specs.Grammar.Grammar.{Many, Nothing, One, ◌⨾◌, ◌or◌}
+use Rattle.tap_world.specs.Grammar.{HasForm, Perhaps}
+use Rattle.tap_world.specs.Grammar.Grammar.{One, ◌⨾◌}
 use Rattle.tap_world.specs.Commands.{published}
-use Rattle.tap_world.specs.Then.{◌>>=◌, only_if}
 use Rattle.tap_sound.proofs.Forms.{weaken}
-use Rattle.tap_sound.proofs.Kit.{WhereSome, either, where_if, where_only, where_some, where_then}
-use Rattle.tap_sound.proofs.Left.{fetching, giving_up, more_chains, more_frames, rx_closes, rx_finds, rx_goes_way, rx_left, rx_notices, rx_packet, rx_takes, tx_closes, tx_finds, tx_left, tx_notices, tx_packet}
+use Rattle.tap_sound.proofs.Kit.{WhereSome, where_if}
+use Rattle.tap_sound.proofs.Left.{more_chains, rx_closes, rx_finds, rx_goes_way, rx_left, rx_notices, rx_packet, tx_closes, tx_finds, tx_left, tx_notices, tx_packet}
 
 -- ---- the steps of a receive turn
 
@@ -104,12 +95,12 @@ rx_next_fits rx.NoticesOn s is = λ es h. (refl, h)
 rx_next_fits (rx.NoticesOff way) s is = λ es h. (refl, rx_goes_way way es h)
 rx_next_fits (rx.Publish None) s is = go (publishes (rt.rx_ring s) s.memory)
   where
-    go : (o : Option Made) → RxFits (rx.Publish None) (elim o [ | None ↦ None | Some made ↦ Some (rt.rx_made made rx.Hand s) ])
+    go : (o : Option Made) → RxFits (rx.Publish None) (elim o [ None ↦ None | Some made ↦ Some (rt.rx_made made rx.Hand s) ])
     go None = tt
     go (Some made) = λ es h. (refl, h)
 rx_next_fits (rx.Publish (Some e)) s is = go (publishes (rt.rx_ring s) s.memory)
   where
-    go : (o : Option Made) → RxFits (rx.Publish (Some e)) (elim o [ | None ↦ None | Some made ↦ Some (rt.rx_made made (rx.Ended e) s) ])
+    go : (o : Option Made) → RxFits (rx.Publish (Some e)) (elim o [ None ↦ None | Some made ↦ Some (rt.rx_made made (rx.Ended e) s) ])
     go None = tt
     go (Some made) = λ es h. (refl, h)
 rx_next_fits (rx.Ended e) s is = tt
@@ -184,6 +175,7 @@ tx_next_fits tx.Copy s = copies s.turn.chains
       where
         gives : {es : List EventKind} → HasForm (tx_left tx.Give) es → HasForm (Perhaps (One event.HostIn ⨾ One event.Look ⨾ Perhaps (One event.Publish)) ⨾ published ⨾ more_chains) es
         gives h = inr h
+
     copies : (cs : List Gathered) → TxFits tx.Copy (tt_.tx_copies cs s)
     copies [] = tt
     copies (c ∷ cs) = judges c (refusal_of s.turn.header (bytes_of_chain s.turn.header s.memory c)) (first_position (tt_.tx_ring s)) (bytes_of_chain s.turn.header s.memory c)
@@ -192,17 +184,18 @@ tx_next_fits tx.Give s = gives s.turn.held
     last : (q : Queue) (t : TxTurn) (es : List EventKind) → HasForm (One event.Look ⨾ Perhaps (One event.Publish) ⨾ tx_left (tt_.tx_after_packet t q)) es
         → HasForm (tx_left tx.Give) (event.HostIn ∷ es)
     last q t es h = (refl, weaken (One event.Look ⨾ Perhaps (One event.Publish)) (HasForm (tx_left (tt_.tx_after_packet t q))) (HasForm (published ⨾ more_chains)) (tx_packet t q) es h)
+
     gives : (o : Option FrameValue) → TxFits tx.Give (tt_.tx_gives o s)
     gives None = tt
     gives (Some frame) = where_if (λ (made : TxState × Act). TxGives tx.Give made.0.turn.stage) (nat_lt 0 s.host.room) _ (λ b. last s.queue s.turn)
 tx_next_fits (tx.Publish None) s = go (publishes (tt_.tx_ring s) s.memory)
   where
-    go : (o : Option Made) → TxFits (tx.Publish None) (elim o [ | None ↦ None | Some made ↦ Some (tt_.tx_made made tx.Fetch s) ])
+    go : (o : Option Made) → TxFits (tx.Publish None) (elim o [ None ↦ None | Some made ↦ Some (tt_.tx_made made tx.Fetch s) ])
     go None = tt
     go (Some made) = λ es h. (refl, h)
 tx_next_fits (tx.Publish (Some e)) s = go (publishes (tt_.tx_ring s) s.memory)
   where
-    go : (o : Option Made) → TxFits (tx.Publish (Some e)) (elim o [ | None ↦ None | Some made ↦ Some (tt_.tx_made made (tx.Ended e) s) ])
+    go : (o : Option Made) → TxFits (tx.Publish (Some e)) (elim o [ None ↦ None | Some made ↦ Some (tt_.tx_made made (tx.Ended e) s) ])
     go None = tt
     go (Some made) = λ es h. (refl, h)
 tx_next_fits (tx.Ended e) s = tt

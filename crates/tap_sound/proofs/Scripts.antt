@@ -1,28 +1,25 @@
 -- In a run an actor's events are the scripts of its commands.
-use Rattle.std.proofs.Common.{◌≡◌, ◌≢◌, ◌⊎◌, ℕ, zero, suc, ◌+◌, ◌≤◌, ◌<◌, List, [], ◌∷◌, ◌++◌, length, map, Bool, true, false, Option, Some, None, inl, inr, ⊎_elim, refl, sym, ap, ◌∙◌, subst, true≢false, arith}
-use Rattle.std.specs.Prelude.{if◌then◌else◌, ◌==◌, ◌&&◌, drop, is_none, filter, slice_get}
-use Rattle.std.specs.List.{AllByRecursion, list_all}
+use Rattle.std.proofs.Common.{◌≡◌, ◌≢◌, ◌⊎◌, ℕ, zero, suc, List, [], ◌∷◌, ◌++◌, Bool, true, false, Some, inl, inr, ⊎_elim, refl, sym, ap, ◌∙◌, subst, true≢false}
+use Rattle.std.specs.Prelude.{if◌then◌else◌, ◌&&◌, drop, is_none, slice_get}
+use Rattle.std.specs.List.{list_all}
 use Rattle.std.proofs.lemmas.Bool.Decides.{eqb_tells}
-use Rattle.scen_words.specs.declared.command.Command.{Command}
 use Rattle.tap_world.specs.declared.event.Event.{Event}
 use Rattle.tap_world.specs.declared.event.EventKind.{EventKind}
-use Rattle.tap_world.specs.declared.event.Heard.{Heard}
-use Rattle.tap_world.specs.Then.{◌>>=◌, only_if}
 use Rattle.tap_world.specs.ByNumber.{with_nth}
 use Rattle.tap_world.specs.Grammar.{HasForm}
 use Rattle.tap_world.specs.Commands.{AreOf, AreScripts, AreScriptsSoFar, events_of, kinds}
 use Rattle.tap_world.specs.Setup.{Numbered, Setup}
 use Rattle.tap_world.specs.World.{Actor, Doing, World, current}
 use Rattle.tap_world.specs.World.Doing.{Begun, Purges}
-use Rattle.tap_world.specs.Effect.{Effect, Ending, Onward, actor_after, ended, ending, files_after, guests_after, settled, with_effect}
+use Rattle.tap_world.specs.Effect.{Effect, Onward, actor_after, ended, files_after, guests_after, with_effect}
 use Rattle.tap_world.specs.Effect.Onward.{Ends, Goes, Stays}
-use Rattle.tap_world.specs.Step.{row, step}
+use Rattle.tap_world.specs.Step.{step}
 use Rattle.tap_world.specs.Runs.{has_ended, run}
 use Rattle.tap_sound.proofs.Kit.{some_same, then_some, where_some}
 use Rattle.tap_sound.proofs.Left.{left_of}
 use Rattle.tap_sound.proofs.Follows.{Follows, Onto}
 use Rattle.tap_sound.proofs.Doings.{row_follows}
-use Rattle.tap_sound.proofs.Taken.{IsEnding, IsStep, step_is, when_settled, with_nth_get}
+use Rattle.tap_sound.proofs.Taken.{IsStep, step_is, when_settled, with_nth_get}
 use Rattle.tap_sound.proofs.Ways.{way}
 
 -- ---- what an actor's events are to be, from where it stands
@@ -136,19 +133,24 @@ before_settled Q keeps s w x u t i a at es =
     let actors = effect_actors t.effect x.actor t.actor x.command w t.between t.made in
     ⊎_elim
     (λ same.
-        let b : Actor = actor_after t.effect.onward t.actor in
-        let mine : t.actor ≡ a = some_same t.actor a (sym t.found ∙ ap (slice_get w.actors) same.0 ∙ at) in
-        let first = first_of_list t.actor.script t.now t.current_is in
-        let on : Onto (left_of t.actor.doing t.now.command) t.now.command x.kind t.effect.onward =
-            where_some (Follows t.actor.doing t.now.command x.kind) _ t.effect
-            (row_follows s w x.actor t.actor.seen t.actor.script t.now.number t.actor.doing t.now.command x.kind t.next) t.is_row in
-        (b, ap (λ (q : List Actor). slice_get q i) actors ∙ same.1,
-        (λ h. subst (λ (q : Actor). Q q.doing q.script (events_of i (x ∷ es))) mine
-        (subst (λ (q : List Event). Q t.actor.doing t.actor.script q) (sym (own_event i x es same.0))
-        (subst (λ (q : List Numbered). Q t.actor.doing q (x ∷ events_of i es)) (sym first.1)
-        (keeps.0 t.effect.onward t.actor.doing t.now first.0 x (events_of i es) on (sym t.number) t.actor first.1 refl h))))))
-    (λ other. (a, ap (λ (q : List Actor). slice_get q i) actors ∙ other.1,
-        (λ h. subst (λ (q : List Event). Q a.doing a.script q) (sym (other_event i x es other.0)) h)))
+    let b : Actor = actor_after t.effect.onward t.actor in
+    let mine : t.actor ≡ a = some_same t.actor a (sym t.found ∙ ap (slice_get w.actors) same.0 ∙ at) in
+    let first = first_of_list t.actor.script t.now t.current_is in
+    let on : Onto (left_of t.actor.doing t.now.command) t.now.command x.kind t.effect.onward =
+    where_some (Follows t.actor.doing t.now.command x.kind) _ t.effect
+    (row_follows s w x.actor t.actor.seen t.actor.script t.now.number t.actor.doing t.now.command x.kind t.next) t.is_row in (
+      b,
+      ap (λ (q : List Actor). slice_get q i) actors ∙ same.1,
+      (λ h. subst (λ (q : Actor). Q q.doing q.script (events_of i (x ∷ es))) mine
+          (subst (λ (q : List Event). Q t.actor.doing t.actor.script q) (sym (own_event i x es same.0))
+          (subst (λ (q : List Numbered). Q t.actor.doing q (x ∷ events_of i es)) (sym first.1)
+          (keeps.0 t.effect.onward t.actor.doing t.now first.0 x (events_of i es) on (sym t.number) t.actor first.1 refl h)))),
+    ))
+    (λ other. (
+      a,
+      ap (λ (q : List Actor). slice_get q i) actors ∙ other.1,
+      (λ h. subst (λ (q : List Event). Q a.doing a.script q) (sym (other_event i x es other.0)) h),
+    ))
     (with_nth_get x.actor (actor_after t.effect.onward t.actor) w.actors i a at)
 
 step_leads : (Q : Doing → List Numbered → List Event → Type 0) → Keeps Q → (s : Setup) (w : World) (x : Event) (u : World) → IsStep s w x u → (i : ℕ) (a : Actor) → slice_get w.actors i ≡ Some a
@@ -158,14 +160,16 @@ step_leads Q keeps s w x u t i a at es =
     subst (λ (q : World). Leads Q i x a q es) t.is
     (when_settled (λ (q : World). Leads Q i x a q es) t.between b (λ e end. ⊎_elim
     (λ same.
-        let mine : e.state ≡ b.0 = some_same e.state b.0 (sym end.found ∙ ap (slice_get t.between.actors) same.0 ∙ b.1) in
-        let first = first_of_list e.state.script end.now end.current_is in
-        (record e.state { script = drop 1 e.state.script; doing = Begun }, same.1,
-        (λ h. b.2 (subst (λ (q : Actor). Q q.doing q.script (events_of i es)) mine
-        (subst (λ (q : Doing). Q q e.state.script (events_of i es)) (sym end.doing)
-        (subst (λ (q : List Numbered). Q (Purges end.file e.version) q (events_of i es)) (sym first.1)
-        (keeps.1 end.file e.version end.now first.0 (events_of i es)
-        (subst (λ (q : List Numbered). Q Begun (drop 1 q) (events_of i es)) first.1 h))))))))
+    let mine : e.state ≡ b.0 = some_same e.state b.0 (sym end.found ∙ ap (slice_get t.between.actors) same.0 ∙ b.1) in
+    let first = first_of_list e.state.script end.now end.current_is in (
+      record e.state { script = drop 1 e.state.script; doing = Begun },
+      same.1,
+      (λ h. b.2 (subst (λ (q : Actor). Q q.doing q.script (events_of i es)) mine
+          (subst (λ (q : Doing). Q q e.state.script (events_of i es)) (sym end.doing)
+          (subst (λ (q : List Numbered). Q (Purges end.file e.version) q (events_of i es)) (sym first.1)
+          (keeps.1 end.file e.version end.now first.0 (events_of i es)
+          (subst (λ (q : List Numbered). Q Begun (drop 1 q) (events_of i es)) first.1 h)))))),
+    ))
     (λ other. (b.0, other.1, b.2))
     (with_nth_get e.actor (record e.state { script = drop 1 e.state.script; doing = Begun }) t.between.actors i b.0 b.1)))
 
@@ -178,6 +182,7 @@ ended_each (x ∷ xs) zero a h e = subst (λ (q : Actor). q.script ≡ []) (some
     and_left : (b c : Bool) → (b && c) ≡ true → b ≡ true
     and_left true c k = refl
     and_left false c k = absurd (true≢false (sym k))
+
     go : (cs : List Numbered) → is_none (current cs) ≡ true → cs ≡ []
     go [] k = refl
     go (c ∷ cs) k = absurd (true≢false (sym k))

@@ -1,22 +1,21 @@
 -- Every event leads its command to where it can come.
-use Rattle.std.proofs.Common.{◌≡◌, ℕ, List, [], ◌∷◌, Bool, true, false, Option, Some, None, refl, sym, ap, ◌∙◌, subst}
+use Rattle.std.proofs.Common.{◌≡◌, ℕ, List, [], ◌∷◌, true, Option, Some, refl, sym, ap, ◌∙◌, subst}
 use Rattle.std.specs.Prelude.{drop, slice_get}
 use Rattle.std.specs.Option.{option_map_or}
 use Rattle.tap_world.specs.declared.event.Event.{Event}
 use Rattle.tap_world.specs.declared.event.Heard.{Heard}
-use Rattle.tap_world.specs.ByNumber.{with_nth}
 use Rattle.tap_world.specs.Setup.{Numbered, Setup}
-use Rattle.tap_world.specs.World.{Actor, Doing, World, current}
+use Rattle.tap_world.specs.World.{Actor, World}
 use Rattle.tap_world.specs.World.Doing.{Begun}
-use Rattle.tap_world.specs.Effect.{Effect, Onward, actor_after}
+use Rattle.tap_world.specs.Effect.{Onward, actor_after}
 use Rattle.tap_world.specs.Effect.Onward.{Ends, Goes, Stays}
-use Rattle.tap_world.specs.Step.{row, step}
+use Rattle.tap_world.specs.Step.{step}
 use Rattle.tap_world.specs.Sound.{EachActor}
 use Rattle.tap_world.specs.SoundActors.{CanBe, can_be}
 use Rattle.tap_sound.proofs.Kit.{where_some}
 use Rattle.tap_sound.proofs.Scripts.{effect_actors}
 use Rattle.tap_sound.proofs.Standing.{Leads, To, row_leads}
-use Rattle.tap_sound.proofs.Taken.{IsStep, each_with_nth, step_is, when_settled}
+use Rattle.tap_sound.proofs.Taken.{each_with_nth, step_is, when_settled}
 
 begun_stands : (seen : ℕ) (cs : List Numbered) → CanBe (record { seen = seen; script = cs; doing = Begun })
 begun_stands seen [] = refl
@@ -39,11 +38,11 @@ stands_are_kept s w x u e stand =
     let t = step_is s w x u e in
     let can = stand x.actor t.actor t.found in
     let leads = where_some (To t.now.command) _ t.effect
-            (row_leads s w x.kind x.actor t.actor t.now.number t.now.command (stands_at t.actor t.now t.current_is can)) t.is_row in
+    (row_leads s w x.kind x.actor t.actor t.now.number t.now.command (stands_at t.actor t.now t.current_is can)) t.is_row in
     let between : Stand t.between.actors =
-        subst Stand (sym (effect_actors t.effect x.actor t.actor x.command w t.between t.made))
-        (each_with_nth (λ i a. CanBe a) x.actor (actor_after t.effect.onward t.actor) w.actors stand
-        (stands_after t.effect.onward t.actor t.now t.current_is leads can)) in
+    subst Stand (sym (effect_actors t.effect x.actor t.actor x.command w t.between t.made))
+    (each_with_nth (λ i a. CanBe a) x.actor (actor_after t.effect.onward t.actor) w.actors stand
+    (stands_after t.effect.onward t.actor t.now t.current_is leads can)) in
     subst (λ (q : World). Stand q.actors) t.is
     (when_settled (λ (q : World). Stand q.actors) t.between between
     (λ f end. each_with_nth (λ i a. CanBe a) f.actor (record f.state { script = drop 1 f.state.script; doing = Begun }) t.between.actors between

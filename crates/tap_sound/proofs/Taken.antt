@@ -1,18 +1,16 @@
 -- A step taken apart, and lists with one thing in another's place.
-use Rattle.std.proofs.Common.{◌≡◌, ◌≢◌, ◌⊎◌, ℕ, zero, suc, ◌+◌, ◌≤◌, ◌<◌, List, [], ◌∷◌, ◌++◌, length, Bool, true, false, Option, Some, None, inl, inr, ⊎_elim, refl, sym, ap, ◌∙◌, subst, true≢false, arith}
+use Rattle.std.proofs.Common.{◌≡◌, ◌≢◌, ◌⊎◌, ℕ, zero, suc, List, [], ◌∷◌, Bool, true, false, Option, Some, None, inl, inr, ⊎_elim, refl, sym, ap, ◌∙◌, subst, true≢false, arith}
 use Rattle.std.specs.Prelude.{if◌then◌else◌, ◌==◌, ◌&&◌, slice_get}
-use Rattle.std.specs.Option.{option_map_or}
 use Rattle.std.proofs.lemmas.Bool.Decides.{eqb_tells}
 use Rattle.tap_world.specs.declared.event.Event.{Event}
 use Rattle.tap_world.specs.declared.event.Heard.{Heard}
-use Rattle.tap_world.specs.Then.{◌>>=◌, only_if}
+use Rattle.tap_world.specs.Then.{◌>>=◌}
 use Rattle.tap_world.specs.ByNumber.{at, with_at, with_nth}
 use Rattle.tap_world.specs.Setup.{Numbered, Setup}
 use Rattle.tap_world.specs.Line.{File, is_empty}
 use Rattle.tap_world.specs.World.{Actor, Doing, World, current}
-use Rattle.tap_world.specs.World.Doing.{Begun, Purges}
-use Rattle.tap_world.specs.Effect.{Effect, Ending, actor_after, ended, ending, purge_of, settled, with_effect}
-use Rattle.tap_world.specs.Effect.Onward.{Ends}
+use Rattle.tap_world.specs.World.Doing.{Purges}
+use Rattle.tap_world.specs.Effect.{Effect, Ending, ended, ending, purge_of, settled, with_effect}
 use Rattle.tap_world.specs.Scripts.{is_kind, next_kind}
 use Rattle.tap_world.specs.Step.{effect, row, step, stepped}
 use Rattle.tap_sound.proofs.Kit.{only_some, some_same, then_some}

@@ -1,70 +1,34 @@
 -- What every row of the table of events keeps to: who publishes, which fates are given, and what is seen.
-use Rattle.std.proofs.Common.{◌≡◌, ◌⊎◌, ℕ, zero, suc, ◌+◌, ◌≤◌, length, arith, List, [], ◌∷◌, Bool, true, false, Option, Some, None, inl, inr, ⊎_elim, refl, sym, ap, ◌∙◌, subst}
-use Rattle.std.specs.Prelude.{if◌then◌else◌, ◌==◌, ◌&&◌, ◌||◌, is_none, is_some, nat_lt, slice_get}
+use Rattle.std.proofs.Common.{◌≡◌, ℕ, ◌+◌, ◌≤◌, length, arith, [], ◌∷◌, Bool, true, false, Option, Some, None, refl}
+use Rattle.std.specs.Prelude.{if◌then◌else◌, ◌==◌, ◌&&◌, ◌||◌, is_none, nat_lt}
 use Rattle.std.specs.Option.{option_map_or}
-use Rattle.guest_mem.specs.Memory.{Contents, first_bad}
 use Rattle.tap_frame.specs.declared.name.Name.{Name}
-use Rattle.tap_frame.specs.Frame.{FrameValue}
-use Rattle.tap_ledger.specs.declared.act.Act.{Act}
-use Rattle.tap_ledger.specs.declared.fate.Cause.{Cause}
-use Rattle.tap_ledger.specs.declared.hand.Hand.{Hand}
-use Rattle.tap_ledger.specs.declared.hand.Hand.TheVariants as hand
 use Rattle.tap_steer.specs.declared.operation.Op.{Op}
 use Rattle.tap_steer.specs.Select.{learns}
-use Rattle.vhost_dev.specs.declared.error.VhostErr.{VhostErr}
-use Rattle.vring_turns.specs.declared.end.End.{End}
-use Rattle.vring_turns.specs.declared.end.End.TheVariants.{Idle}
-use Rattle.vring_turns.specs.declared.stage.RxStage.{RxStage}
-use Rattle.vring_turns.specs.declared.stage.RxStage.TheVariants as rx
-use Rattle.vring_turns.specs.declared.stage.TxStage.{TxStage}
-use Rattle.vring_turns.specs.declared.stage.TxStage.TheVariants as tx
-use Rattle.vring_turns.specs.RxTurn.{RxState, RxTurn, rx_next, rx_step}
-use Rattle.vring_turns.specs.TxTurn.{TxState, TxTurn, tx_step}
 use Rattle.scen_words.specs.declared.command.Command.{Command}
 use Rattle.scen_words.specs.declared.command.Command.TheVariants as command
 use Rattle.tap_trace.specs.declared.causes.TapText.{TapText}
-use Rattle.tap_trace.specs.declared.answer.Answer.{Answer}
-use Rattle.tap_trace.specs.declared.turn.ChainText.{ChainText}
-use Rattle.tap_world.specs.declared.event.EventKind.{EventKind}
-use Rattle.tap_world.specs.declared.event.EventKind.TheVariants as event
-use Rattle.tap_world.specs.declared.event.Found.{Found}
-use Rattle.tap_world.specs.Then.{◌>>=◌, only_if}
 use Rattle.tap_world.specs.ByNumber.{at}
-use Rattle.tap_world.specs.Grammar.{HasForm, Perhaps}
-use Rattle.tap_world.specs.Grammar.Grammar.{Many, Nothing, One, ◌⨾◌, ◌or◌}
-use Rattle.tap_world.specs.Commands.{form_of, unsetting}
 use Rattle.tap_world.specs.Frames.{Front}
-use Rattle.vhost_dev.specs.Refusals.{number_refusal}
-use Rattle.vhost_dev.specs.Settings.{ring_at}
 use Rattle.std.proofs.Common.{true≢false}
-use Rattle.tap_world.specs.Setup.{Numbered, Setup, op_of}
-use Rattle.tap_world.specs.Line.{File, first_that, front_place, has_batch, in_batch, in_ring, is_full, is_gone, is_over, is_spent, last_that}
-use Rattle.tap_world.specs.LineSteps.{ready_front}
-use Rattle.tap_world.specs.Guests.{Guest, Vhost, is_ring, turn_of}
+use Rattle.tap_world.specs.Setup.{Setup, op_of}
+use Rattle.tap_world.specs.Guests.{Vhost, is_ring, turn_of}
 use Rattle.std.specs.Prelude.{not}
 use Rattle.tap_steer.specs.Rules.{refuse}
 use Rattle.tap_world.specs.World.{Actor, Doing, World, name_of, newest, table}
-use Rattle.tap_world.specs.World.Doing.{Backed, Backs, Begun, Changes, Disowned, Given, Hosts, Learns, Opened, Opens, Owns, Placed, Purges, Reads, Receives, Released, Resizes, Routed, Shrinks, Teaches, Transmits, Unbacked, Withdrawn, Withdraws}
+use Rattle.tap_world.specs.World.Doing.{Backed, Changes, Disowned, Given, Hosts, Learns, Opened, Owns, Reads, Released, Shrinks, Teaches, Transmits, Withdraws}
 use Rattle.tap_world.specs.Effect.{Effect, Onward, only}
 use Rattle.tap_flow_key.specs.FlowKey.{hash}
 use Rattle.tap_steer.specs.declared.operation.Op.TheVariants as op
 use Rattle.tap_trace.specs.declared.answer.Answer.TheVariants as answer
 use Rattle.tap_world.specs.declared.event.Found.TheVariants as found
 use Rattle.tap_world.specs.Effect.Onward.{Ends, Goes, Stays}
-use Rattle.tap_world.specs.Scripts.{hand_next, is_kind, next_kind, purge_next, read_next, rx_next_kind, send_next, shrink_next, turn_first, tx_next_kind}
 use Rattle.tap_world.specs.Step as rows
 use Rattle.tap_world.specs.StepBackend as back
-use Rattle.tap_world.specs.StepControl as control
-use Rattle.tap_world.specs.StepRing as ring
 use Rattle.tap_world.specs.StepTable as tables
-use Rattle.tap_world.specs.StepTurns as rx_turns
 use Rattle.tap_world.specs.StepTransmits as tx_turns
-use Rattle.tap_sound.proofs.Kit.{WhereSome, either, where_if, where_only, where_some, where_then}
-use Rattle.tap_sound.proofs.Steps.{held, or_else, own, owning, publication, turning}
-
-
-
-use Rattle.tap_ledger.specs.declared.fate.Fate.TheVariants as fate
+use Rattle.tap_sound.proofs.Kit.{WhereSome, either, where_only, where_then}
+use Rattle.tap_sound.proofs.Steps.{own, publication}
 use Rattle.tap_frame.specs.declared.reading.BadFrame.{BadFrame}
 use Rattle.tap_steer.specs.declared.error.TapErr.{TapErr}
 use Rattle.tap_steer.specs.declared.selection.Select.{Select}
@@ -72,12 +36,10 @@ use Rattle.tap_steer.specs.declared.selection.Select.TheVariants as select
 use Rattle.tap_steer.specs.Select as steer
 use Rattle.tap_steer.specs.Table.{Table}
 use Rattle.tap_world.specs.Frames.{bad_in, ether_in, least_in, sent_bytes, sent_front}
-use Rattle.tap_world.specs.Line.{Entry, Standing}
 use Rattle.tap_world.specs.Line.Standing.{Out}
-use Rattle.tap_world.specs.LineSteps.{changed}
-use Rattle.tap_world.specs.LineSteps.Change.{Leaves, Sizes, Takes}
+use Rattle.tap_world.specs.LineSteps.Change.{Leaves, Sizes}
 use Rattle.tap_world.specs.Effect.{OnFiles}
-use Rattle.tap_world.specs.Effect.OnFiles.{NoFile, OnFile}
+use Rattle.tap_world.specs.Effect.OnFiles.{OnFile}
 use Rattle.tap_world.specs.Sound.{has_left}
 
 -- ---- what a row keeps to
@@ -197,6 +159,7 @@ publishes_back w z (Backed file) (command.Backend vhost r asked) = either (IsTam
   where
     first : IsTame w true z (record (only (Goes (newest w + 1) (Owns file (newest w + 1)) (found.Version (newest w + 1))) w) { ops = op.Back file (back.side_of r) (Some vhost) ∷ [] })
     first = (λ e. absurd (true≢false e), tt, λ e. tt, one_more w)
+
     second : IsTame w true z (record (back.back_over w (newest w + 1) vhost r (newest w + 1)) { ops = op.Back file (back.side_of r) (Some vhost) ∷ [] })
     second = (λ e. absurd (true≢false e), tt, λ e. tt, one_more w)
 publishes_back w z (Disowned file) (command.Backend vhost r asked) = (λ e. absurd (true≢false e), tt, λ e. tt, one_more w)

@@ -1,8 +1,8 @@
 -- The chains of a list were published in the order of their positions.
-use Rattle.std.proofs.Common.{◌≡◌, ℕ, ◌+◌, ◌-◌, ◌≤◌, Bool, true, false, List, [], ◌∷◌, length, map, take, drop, refl, sym, ap, ◌∙◌, subst, arith, length-drop, length-take}
+use Rattle.std.proofs.Common.{◌≡◌, ℕ, ◌+◌, ◌-◌, ◌≤◌, List, [], ◌∷◌, length, map, take, drop, sym, ap, ◌∙◌, subst, arith, length-drop, length-take}
 use Rattle.std.specs.List.{AllByRecursion}
 use Rattle.std.proofs.lemmas.List.{drop-take}
-use Rattle.vhost_queue.specs.Positions.{Positions, Published, IsInOrder, positions_from}
+use Rattle.vhost_queue.specs.Positions.{Positions, Published, positions_from}
 use Rattle.vhost_dev.specs.Lists.{AreInOrder, IsClosed}
 use Rattle.tap_world.specs.Project.{lists_from}
 use Rattle.tap_sound.specs.Used.{IsCounted}
@@ -26,7 +26,8 @@ are_counted ((base, start) ∷ []) p h =
 are_counted ((base, start) ∷ (next, until) ∷ more) p h =
     let c : IsClosed base start until p.journal = h.0 in
     let part = part_is start until p.journal c.rising in
-    let n = part_length start until p.journal c.rising c.begun in
-    (subst (λ (used : List Published). map (λ (x : Published). x.0) used ≡ positions_from base (length used)) (sym part)
-    (c.positions ∙ ap (positions_from base) (sym n)),
-    are_counted ((next, until) ∷ more) p h.1)
+    let n = part_length start until p.journal c.rising c.begun in (
+      subst (λ (used : List Published). map (λ (x : Published). x.0) used ≡ positions_from base (length used)) (sym part)
+          (c.positions ∙ ap (positions_from base) (sym n)),
+      are_counted ((next, until) ∷ more) p h.1,
+    )

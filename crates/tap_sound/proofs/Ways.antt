@@ -1,5 +1,5 @@
 -- What is left of a command's events can always be done.
-use Rattle.std.proofs.Common.{◌≡◌, ℕ, List, [], ◌∷◌, Bool, true, false, Option, Some, None, inl, inr, refl}
+use Rattle.std.proofs.Common.{List, [], ◌∷◌, Bool, true, false, Some, None, inl, inr, refl}
 use Rattle.std.specs.Prelude.{◌==◌, if◌then◌else◌}
 use Rattle.vring_turns.specs.declared.stage.RxStage.{RxStage}
 use Rattle.vring_turns.specs.declared.stage.RxStage.TheVariants as rx

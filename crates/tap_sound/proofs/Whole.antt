@@ -1,24 +1,22 @@
 -- What is true of whole runs, phase by phase.
-use Rattle.std.proofs.Common.{◌≡◌, ◌≢◌, ◌⊎◌, ℕ, zero, suc, ◌+◌, ◌≤◌, ◌<◌, List, [], ◌∷◌, ◌++◌, Bool, true, false, Option, Some, None, inl, inr, ⊎_elim, refl, sym, ap, ◌∙◌, subst, true≢false, arith}
+use Rattle.std.proofs.Common.{◌≡◌, ℕ, zero, suc, ◌+◌, ◌<◌, List, [], ◌∷◌, Bool, Option, Some, None, refl, sym, ap, ◌∙◌, subst, arith}
 use Rattle.std.specs.Prelude.{if◌then◌else◌, drop, slice_get}
 use Rattle.scen_text.specs.declared.scenario.Phase.{Phase}
 use Rattle.scen_text.specs.declared.scenario.Scenario.{Scenario}
 use Rattle.tap_world.specs.declared.event.Event.{Event}
-use Rattle.tap_world.specs.declared.event.Heard.{Heard}
 use Rattle.tap_world.specs.Then.{◌>>=◌}
-use Rattle.tap_world.specs.ByNumber.{with_nth}
-use Rattle.tap_world.specs.Commands.{AreScripts, AreScriptsSoFar, events_of}
+use Rattle.tap_world.specs.Commands.{AreScriptsSoFar, events_of}
 use Rattle.tap_world.specs.Setup.{Numbered, Setup, script_in, setup_of}
-use Rattle.tap_world.specs.World.{Actor, Doing, World, newest}
+use Rattle.tap_world.specs.World.{Actor, World, newest}
 use Rattle.tap_world.specs.World.Doing.{Begun}
-use Rattle.tap_world.specs.Effect.{Effect, Onward, actor_after}
+use Rattle.tap_world.specs.Effect.{Onward, actor_after}
 use Rattle.tap_world.specs.Effect.Onward.{Ends, Goes, Stays}
 use Rattle.tap_world.specs.Step.{step}
 use Rattle.tap_world.specs.Runs.{AreChosen, IsChosen, IsOrder, IsRun, actors_from, begins, has_ended, moved_on, opening, run, run_phases}
 use Rattle.tap_sound.specs.Laws.{AreScripted}
 use Rattle.tap_sound.proofs.Kit.{some_same, then_some}
 use Rattle.tap_sound.proofs.Scripts.{all_done, all_so_far, effect_actors, ended_each, first_of_list, run_finishes, run_proceeds}
-use Rattle.tap_sound.proofs.Taken.{IsEnding, IsStep, each_with_nth, if_some, step_is, when_settled}
+use Rattle.tap_sound.proofs.Taken.{IsStep, each_with_nth, if_some, step_is, when_settled}
 
 -- ---- the actors of a phase
 
@@ -46,10 +44,11 @@ phases_scripted s number [] (d ∷ ds) w v e = absurd (cc (e))
 phases_scripted s number (p ∷ ps) [] w v e = absurd (cc (e))
 phases_scripted s number (p ∷ ps) (es ∷ more) w v e =
     let t = then_some (run s es (begins number p w)) _ v e in
-    let i = if_some (has_ended t.0) _ v t.2 in
-    ((λ actor lt. all_done (script_in p actor) (events_of actor es)
-    (run_finishes s es (begins number p w) t.0 t.1 i.0 actor _ (phase_actor number p w actor lt))),
-    phases_scripted s (number + 1) ps more t.0 v i.1)
+    let i = if_some (has_ended t.0) _ v t.2 in (
+      (λ actor lt. all_done (script_in p actor) (events_of actor es)
+          (run_finishes s es (begins number p w) t.0 t.1 i.0 actor _ (phase_actor number p w actor lt))),
+      phases_scripted s (number + 1) ps more t.0 v i.1,
+    )
 
 pub events_are_scripts : (s : Scenario) (events : List (List Event)) (w : World) → IsRun s events w → AreScripted s.phases events
 events_are_scripts s events w e = phases_scripted (setup_of s) 0 s.phases events (opening (setup_of s)) w e
@@ -98,9 +97,9 @@ step_rests : (s : Setup) (w : World) (x : Event) (u : World) → IsStep s w x u 
 step_rests s w x u t rest =
     let first = first_of_list t.actor.script t.now t.current_is in
     let between : AtRest t.between = subst (λ (q : List Actor). (i : ℕ) (a : Actor) → slice_get q i ≡ Some a → IsAtRest a)
-            (sym (effect_actors t.effect x.actor t.actor x.command w t.between t.made))
-            (each_with_nth (λ i a. IsAtRest a) x.actor (actor_after t.effect.onward t.actor) w.actors rest
-            (rests_after t.effect.onward t.actor t.now first.0 first.1)) in
+    (sym (effect_actors t.effect x.actor t.actor x.command w t.between t.made))
+    (each_with_nth (λ i a. IsAtRest a) x.actor (actor_after t.effect.onward t.actor) w.actors rest
+    (rests_after t.effect.onward t.actor t.now first.0 first.1)) in
     subst AtRest t.is (when_settled AtRest t.between between
     (λ e end. each_with_nth (λ i a. IsAtRest a) e.actor (record e.state { script = drop 1 e.state.script; doing = Begun }) t.between.actors between
     (λ none. refl)))

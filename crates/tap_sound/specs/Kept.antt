@@ -1,5 +1,5 @@
 -- This project's own: what every event keeps of what is sound.
-use Rattle.std.specs.Prelude.{◌≡◌, ℕ, ◌^◌, ◌-◌, ◌≤◌, Bool, true, false, Some}
+use Rattle.std.specs.Prelude.{◌≡◌, ◌^◌, ◌-◌, ◌≤◌, Bool, true, false, Some}
 use Rattle.tap_world.specs.declared.event.Event.{Event}
 use Rattle.tap_world.specs.declared.event.EventKind.{EventKind}
 use Rattle.tap_world.specs.declared.event.EventKind.TheVariants as event
@@ -9,7 +9,7 @@ use Rattle.tap_world.specs.Line.{File, claimed, count, in_batch}
 use Rattle.tap_world.specs.World.{World, table}
 use Rattle.tap_world.specs.Step.{step}
 use Rattle.tap_world.specs.SoundActors.{CanBe}
-use Rattle.tap_world.specs.Sound.{EachActor, EachFile, HasEpochs, HasRoom, HasSeen, InThreeParts, capacity_before}
+use Rattle.tap_world.specs.Sound.{ClaimIsHeld, EachActor, EachFile, HasEpochs, HasRoom, HasSeen, InThreeParts, capacity_before}
 
 -- Every event keeps that epochs never fall along a line, and that what waits has the gate's.
 abbrev pub EpochsAreKept : Type 0
@@ -54,3 +54,9 @@ abbrev pub StandsAreKept : Type 0
 StandsAreKept =
     (s : Setup) (w : World) (e : Event) (u : World × Heard) → step s w e ≡ Some u
     → EachActor w (λ actor a. CanBe a) → EachActor u.0 (λ actor a. CanBe a)
+
+-- Every event keeps that a place which is claimed and not put belongs to an actor that is about to put it.
+abbrev pub ClaimsAreKept : Type 0
+ClaimsAreKept =
+    (s : Setup) (w : World) (e : Event) (u : World × Heard) → step s w e ≡ Some u
+    → EachFile w (ClaimIsHeld w) → EachFile u.0 (ClaimIsHeld u.0)

@@ -1,9 +1,9 @@
 -- This project's own: what a trace tells of the chains that were published.
-use Rattle.std.specs.Prelude.{◌≡◌, ℕ, List, length, map, Some}
+use Rattle.std.specs.Prelude.{◌≡◌, ℕ, length, map, Some}
 use Rattle.std.specs.List.{AllByRecursion}
 use Rattle.tap_trace.specs.declared.trace.PositionList.{PositionList}
 use Rattle.vhost_queue.specs.Positions.{Published, positions_from}
-use Rattle.vhost_dev.specs.Settings.{RingSettings, ring_at}
+use Rattle.vhost_dev.specs.Settings.{ring_at}
 use Rattle.tap_world.specs.ByNumber.{at}
 use Rattle.tap_world.specs.Setup.{Setup}
 use Rattle.tap_world.specs.Guests.{Vhost}

@@ -4,7 +4,7 @@
 //! proofs begin with `proofs/Kit.antt` and `proofs/Taken.antt`, which take a step apart.
 #![tactic(auto)]
 
-ghost use Rattle.tap_sound.specs.Kept.{EpochsAreKept, LinesAreKept, RoomIsKept, StandsAreKept, VersionsAreKept};
+ghost use Rattle.tap_sound.specs.Kept.{ClaimsAreKept, EpochsAreKept, LinesAreKept, RoomIsKept, StandsAreKept, VersionsAreKept};
 ghost use Rattle.tap_sound.specs.Laws.{AllIsDone, EventsAreScripts, EventsBeginScripts, OrderIsRun};
 ghost use Rattle.tap_sound.specs.Used.{UsedIsCounted};
 
@@ -49,4 +49,9 @@ pub fn used_is_counted()
 /// Every event keeps that each command has come no further than it can.
 pub fn stands_are_kept()
     ensures { StandsAreKept }
+{}
+
+/// Every event keeps that a place which is claimed and not put belongs to an actor that is about to put it.
+pub fn claims_are_kept()
+    ensures { ClaimsAreKept }
 {}

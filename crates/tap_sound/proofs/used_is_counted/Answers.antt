@@ -1,6 +1,5 @@
-use Rattle.std.proofs.Common.{◌≡◌, ℕ, Bool, true, false}
-use Rattle.std.specs.List.{AllByRecursion}
-use Rattle.vhost_dev.specs.Settings.{RingSettings, Settings, ring_at, ring_of, is_rx}
+use Rattle.std.proofs.Common.{Bool, true, false}
+use Rattle.vhost_dev.specs.Settings.{Settings, ring_at, ring_of, is_rx}
 use Rattle.vhost_dev.specs.Lists.{AreInOrder}
 use Rattle.tap_sound.proofs.Used as used
 use Rattle.tap_sound.proofs.used_is_counted.Goals as goal
