@@ -50,6 +50,7 @@ placed_at epoch place frame v w m m3 new new3 is_open few free t =
       same_gate = t.1;
       order = t.2.room;
       open_then = (same.1 ∙ is_open.0, same.2 ∙ is_open.1);
+      same_resizes = same.3;
       same_capacity = sym (t.2.asked.capacity (sym same.3));
       room = t.3;
       place_is = at;

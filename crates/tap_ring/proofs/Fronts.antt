@@ -209,8 +209,11 @@ module _ (plan : Plan) where
         ready.1.2,
         subst (λ ws. Ring plan (record { words = ws; homes = slice_set s.homes (slot_at s r.h.lifted) none; views = slice_set s.views by w })) (sym (set-get_or s.words i 0))
             (taken_ring s r by found v.0 x at takes_is empty (ready_below s r word) word ready.1.1),
-        subst (λ (b : Bool). MatchBool b (Ready v n found (w, (slot_at s r.h.lifted, Some x.claim.frame) ∷ v.1)) (Unready v found (w, (slot_at s r.h.lifted, Some x.claim.frame) ∷ v.1))) (sym t.0)
-            (x.claim.frame, refl, ap (λ m. (m, Some x.claim.frame) ∷ v.1) spot),
+        (
+          i_is,
+          subst (λ (b : Bool). MatchBool b (Ready v n found (w, (slot_at s r.h.lifted, Some x.claim.frame) ∷ v.1)) (Unready v found (w, (slot_at s r.h.lifted, Some x.claim.frame) ∷ v.1))) (sym t.0)
+              (x.claim.frame, refl, ap (λ m. (m, Some x.claim.frame) ∷ v.1) spot),
+        ),
       ))
       (λ (t : (eqb found (v.0.next + 1) ≡ false) × (found ≢ v.0.next + 1)).
       let w = seen_front found v.0 in (
@@ -227,6 +230,6 @@ module _ (plan : Plan) where
           asked = k.asked;
           room = k.room;
         })),
-        subst (λ (b : Bool). MatchBool b (Ready v n found (w, v.1)) (Unready v found (w, v.1))) (sym t.0) (refl, refl),
+        (i_is, subst (λ (b : Bool). MatchBool b (Ready v n found (w, v.1)) (Unready v found (w, v.1))) (sym t.0) (refl, refl)),
       ))
       (eqb_tells found (v.0.next + 1))

@@ -104,6 +104,7 @@ pub record Placed (epoch : ℕ) (frame : FrameValue) (place : ℕ) (v w : View) 
   pub same_gate : gate_of w.gate ≡ gate_of w.asked
   pub order : IsLater w.room w.gate
   pub open_then : IsOpen epoch w.gate
+  pub same_resizes : w.gate.resizes ≡ w.asked.resizes
   pub same_capacity : w.gate.capacity ≡ w.asked.capacity
   pub room : HasRoom w.gate
   pub place_is : place ≡ w.gate.claimed

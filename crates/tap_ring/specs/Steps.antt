@@ -84,9 +84,11 @@ Puts st v found w = (w.0 ≡ record v.0 { putting = None }) × (w.1 ≡ rest v.1
 
 -- ---- the consumer's steps
 
--- kind 5, load the place's number: ready, and the slot is in hand, or not
+-- kind 5, load the place's number, from the front place's word: ready, and the slot is in hand, or not
 abbrev pub LoadsFront : RingStep → Seated → ℕ → Seated → Type 0
-LoadsFront st v found w = MatchBool (found == v.0.next + 1)
+LoadsFront st v found w =
+    (st.word ≡ 130 + v.0.next % st.slots)
+    × MatchBool (found == v.0.next + 1)
     ((frame : FrameValue) × (w.0 ≡ record (seen_front found v.0) { in_hand = Some frame })
     × (w.1 ≡ (v.0.next % st.slots, Some frame) ∷ v.1))
     ((w.0 ≡ seen_front found v.0) × (w.1 ≡ v.1))

@@ -98,7 +98,8 @@ pub(crate) fn load_front(places: &Places, seat: &mut RingSeat, slot: usize) -> u
     requires consumer { (seat.old.me.0.takes ≡ true) × (seat.old.me.0.in_hand ≡ None) }
     requires slot { slot ≡ seat.old.me.0.next % places.now.table_id.slots }
     ensures ring { seat.new.table_id ≡ seat.old.table_id }
-    ensures told { steps.LoadsFront (step places.now.table_id.slots 0 0 0 none) seat.old.me result seat.new.me }
+    ensures told { steps.LoadsFront
+        (step places.now.table_id.slots (130 + slot) 0 0 none) seat.old.me result seat.new.me }
 {
     places.load::<LoadsFront>(seat, PLACES + slot)
 }

@@ -1,5 +1,5 @@
-//! A consumer and a keeper in a thread each. Since a reopening looks at the consumer, it lies under a
-//! lock; what the keeper does else takes no lock.
+//! A consumer and a keeper in a thread each. Since a reopening looks at the consumer, and the keeper
+//! waits for what it freed, the consumer lies under a lock; a resize and a shut take none.
 
 ghost use Rattle.std.specs.Prelude.{◌≡◌, [], MatchBool, true, false};
 
@@ -13,9 +13,12 @@ use std::thread;
 use std::thread::{Threads, join};
 use tap_frame::Name;
 
-// How many frames the consumer takes at least, and how many are freed between two shuts.
+// How many frames the consumer takes at least, of 40,000. The others fit in the ring, so each producer
+// comes to its end.
 const TAKEN: usize = 39_500;
 
+// Before the n-th of its 100 shuts the keeper waits until n times as many places were freed: fewer than
+// there are frames, so it comes to its end.
 const ROUND: u64 = 390;
 
 // Names one ring.
