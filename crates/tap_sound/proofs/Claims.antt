@@ -134,7 +134,7 @@ held_on s w x u t file place actor e no_put h = ⊎_elim
     (λ other. (h.0, ap (λ (q : List Actor). slice_get q actor) (effect_actors t.effect x.actor t.actor x.command w t.between t.made) ∙ other.1, h.2))
     (with_nth_get x.actor (actor_after t.effect.onward t.actor) w.actors actor h.0 h.1)
 
-with_at_inv : {A : Type 0} (n : ℕ) (new : A) (xs : List (Option A)) (k : ℕ) (x : A) → at (with_at n new xs) k ≡ Some x
+pub with_at_inv : {A : Type 0} (n : ℕ) (new : A) (xs : List (Option A)) (k : ℕ) (x : A) → at (with_at n new xs) k ≡ Some x
     → ((n ≡ k) × (new ≡ x)) ⊎ ((n ≢ k) × (at xs k ≡ Some x))
 with_at_inv n new [] k x e = absurd (cc (e))
 with_at_inv zero new (y ∷ ys) zero x e = inl (refl, some_same new x e)

@@ -20,3 +20,4 @@ mod Standing
 mod Stand
 mod Claiming
 mod Claims
+mod Shut

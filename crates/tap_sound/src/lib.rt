@@ -4,7 +4,7 @@
 //! proofs begin with `proofs/Kit.antt` and `proofs/Taken.antt`, which take a step apart.
 #![tactic(auto)]
 
-ghost use Rattle.tap_sound.specs.Kept.{ClaimsAreKept, EpochsAreKept, LinesAreKept, RoomIsKept, StandsAreKept, VersionsAreKept};
+ghost use Rattle.tap_sound.specs.Kept.{ClaimsAreKept, EpochsAreKept, LinesAreKept, RoomIsKept, ShutIsKept, StandsAreKept, VersionsAreKept};
 ghost use Rattle.tap_sound.specs.Laws.{AllIsDone, EventsAreScripts, EventsBeginScripts, OrderIsRun};
 ghost use Rattle.tap_sound.specs.Used.{UsedIsCounted};
 
@@ -54,4 +54,9 @@ pub fn stands_are_kept()
 /// Every event keeps that a place which is claimed and not put belongs to an actor that is about to put it.
 pub fn claims_are_kept()
     ensures { ClaimsAreKept }
+{}
+
+/// Every event keeps that nothing waits behind a shut gate, but where a detach is emptying the file.
+pub fn shut_is_kept()
+    ensures { ShutIsKept }
 {}
