@@ -21,3 +21,4 @@ mod Stand
 mod Claiming
 mod Claims
 mod Shut
+mod Reached

@@ -1,19 +1,16 @@
 -- A shut gate has nothing behind it, or an actor that is emptying it.
-use Rattle.std.proofs.Common.{◌≡◌, ◌≢◌, ◌⊎◌, ℕ, zero, suc, ◌+◌, ◌-◌, List, [], ◌∷◌, Bool, true, false, Option, Some, None, inl, inr, ⊎_elim, refl, sym, ap, ◌∙◌, subst, true≢false, arith}
-use Rattle.std.specs.Prelude.{if◌then◌else◌, ◌||◌, ◌&&◌, ◌==◌, drop, is_none, option_map, slice_get}
+use Rattle.std.proofs.Common.{◌≡◌, ◌⊎◌, ℕ, zero, suc, ◌+◌, ◌-◌, List, [], ◌∷◌, Bool, true, false, Option, Some, None, inl, inr, ⊎_elim, refl, sym, ap, ◌∙◌, subst, true≢false}
+use Rattle.std.specs.Prelude.{if◌then◌else◌, ◌||◌, drop, is_none, option_map, slice_get}
 use Rattle.std.specs.List.{AllByRecursion, list_any}
-use Rattle.std.specs.Option.{option_map_or}
 use Rattle.tap_world.specs.declared.event.Event.{Event}
 use Rattle.tap_world.specs.declared.event.EventKind.{EventKind}
 use Rattle.tap_world.specs.declared.event.EventKind.TheVariants as event
-use Rattle.tap_world.specs.declared.event.Found.{Found}
 use Rattle.tap_world.specs.declared.event.Heard.{Heard}
-use Rattle.tap_world.specs.Then.{◌>>=◌, only_if}
-use Rattle.tap_world.specs.ByNumber.{at, with_at, with_nth}
+use Rattle.tap_world.specs.ByNumber.{at, with_at}
 use Rattle.tap_world.specs.Setup.{Setup}
-use Rattle.tap_world.specs.Line.{Entry, File, Standing, first_that, has_batch, in_batch, in_ring, is_empty, is_gone, is_kept, last_that}
+use Rattle.tap_world.specs.Line.{Entry, File, Standing, first_that, has_batch, in_batch, in_ring, is_empty, is_kept, last_that}
 use Rattle.tap_world.specs.Line.Standing.{Batched, Claimed, Cut, Out, Ready}
-use Rattle.tap_world.specs.LineSteps.{Change, changed, filled, may_leave, moves_to, ready_front, restand}
+use Rattle.tap_world.specs.LineSteps.{Change, changed, may_leave, moves_to, ready_front}
 use Rattle.tap_world.specs.LineSteps.Change.{Claims, Cuts, Leaves, Moves, Owned, Puts, PutsBack, Reopens, Shuts, Sizes, Takes}
 use Rattle.tap_world.specs.World.{Actor, Doing, World}
 use Rattle.tap_world.specs.World.Doing.{Begun, Purges}
@@ -21,14 +18,13 @@ use Rattle.tap_world.specs.Effect.{Effect, OnFiles, Onward, actor_after, files_a
 use Rattle.tap_world.specs.Effect.OnFiles.{NoFile, OnFile}
 use Rattle.tap_world.specs.Effect.Onward.{Ends, Goes, Stays}
 use Rattle.tap_world.specs.Scripts.{is_kind, next_kind, purge_next}
-use Rattle.tap_world.specs.Step.{out_row, row, step}
+use Rattle.tap_world.specs.Step.{row, step}
 use Rattle.tap_world.specs.StepRing as ring
 use Rattle.tap_world.specs.StepTransmits as tx_turns
 use Rattle.tap_world.specs.Sound.{EachFile, IsEmptyWhenShut, is_purging}
 use Rattle.std.proofs.lemmas.Bool.Decides.{eqb_tells}
-use Rattle.scen_words.specs.declared.command.Command.{Command}
 use Rattle.tap_sound.proofs.Kit.{WhereSome, either, only_some, some_same, then_some, where_some, where_then}
-use Rattle.tap_sound.proofs.Entries.{all_at, all_weaker, batch_is, filled_keeps, none_is, ring_rank}
+use Rattle.tap_sound.proofs.Entries.{all_at, batch_is, filled_keeps, none_is, ring_rank}
 use Rattle.tap_sound.proofs.Files.{Course, Restands, course}
 use Rattle.tap_sound.proofs.Files.Course.{Fills, Grows, Opens, Resizes, Rests, Shifts}
 use Rattle.tap_sound.proofs.Files.Restands.{CutOff, Leave, Move, Put}
@@ -38,7 +34,7 @@ use Rattle.tap_sound.proofs.Scripts.{effect_actors}
 use Rattle.tap_sound.proofs.Kept.{effect_files}
 use Rattle.tap_sound.proofs.Claiming.{Claiming, ClaimsBy, row_claims}
 use Rattle.tap_sound.proofs.Claims.{with_at_inv}
-use Rattle.tap_sound.proofs.Taken.{IsEnding, IsStep, if_some, step_is, when_settled, with_nth_get}
+use Rattle.tap_sound.proofs.Taken.{IsStep, if_some, step_is, when_settled, with_nth_get}
 
 -- ---- nothing waits
 
@@ -117,7 +113,7 @@ purging file (Purges other version) e =
     (version, ⊎_elim (λ t. ap (λ (n : ℕ). Purges n version) t.1) (λ t. absurd (true≢false (sym e ∙ t.0))) (eqb_tells other file))
 purging file d e = absurd (true≢false (sym e))
 
-any_is : (file : ℕ) (actors : List Actor) → list_any (λ (a : Actor). is_purging file a.doing) actors ≡ true → Emptier actors file
+pub any_is : (file : ℕ) (actors : List Actor) → list_any (λ (a : Actor). is_purging file a.doing) actors ≡ true → Emptier actors file
 any_is file [] e = absurd (true≢false (sym e))
 any_is file (x ∷ xs) e = go (is_purging file x.doing) refl e (any_is file xs)
   where

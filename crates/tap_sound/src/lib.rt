@@ -6,6 +6,7 @@
 
 ghost use Rattle.tap_sound.specs.Kept.{ClaimsAreKept, EpochsAreKept, LinesAreKept, RoomIsKept, ShutIsKept, StandsAreKept, VersionsAreKept};
 ghost use Rattle.tap_sound.specs.Laws.{AllIsDone, EventsAreScripts, EventsBeginScripts, OrderIsRun};
+ghost use Rattle.tap_sound.specs.Reached.{PhaseIsKept, RunIsKept};
 ghost use Rattle.tap_sound.specs.Used.{UsedIsCounted};
 
 /// In a run the events of each actor are the scripts of its commands, one after another; on the way to its end the last
@@ -59,4 +60,10 @@ pub fn claims_are_kept()
 /// Every event keeps that nothing waits behind a shut gate, but where a detach is emptying the file.
 pub fn shut_is_kept()
     ensures { ShutIsKept }
+{}
+
+/// So these parts of soundness hold in each world that a run ends in, and in each world on the way.
+pub fn run_is_kept()
+    ensures whole { RunIsKept }
+    ensures phase { PhaseIsKept }
 {}
