@@ -8,7 +8,6 @@ use Rattle.tap_flow_key.specs.FlowKey.{hash}
 use Rattle.tap_frame.specs.Frame.{FrameValue}
 use Rattle.tap_ledger.specs.declared.act.Act.{Act}
 use Rattle.tap_ledger.specs.declared.act.Act.TheVariants as act
-use Rattle.tap_ledger.specs.declared.hand.Hand.{Hand}
 use Rattle.tap_ledger.specs.declared.hand.Hand.TheVariants as hand
 use Rattle.vhost_queue.specs.Queue.{Queue}
 use Rattle.vhost_dev.specs.Settings.{hdr_of}

@@ -56,7 +56,7 @@ use Rattle.tap_steer.specs.Select as steer
 use Rattle.tap_steer.specs.Table.{Table}
 use Rattle.tap_world.specs.Frames.{bad_in, ether_in, least_in, sent_bytes, sent_front}
 use Rattle.tap_world.specs.LineSteps.{changed}
-use Rattle.tap_world.specs.LineSteps.Change.{Claims, Takes}
+use Rattle.tap_world.specs.LineSteps.Change.{Claims, Shuts, Takes}
 use Rattle.tap_world.specs.Effect.{OnFiles}
 use Rattle.tap_world.specs.Effect.OnFiles.{NoFile, OnFile}
 use Rattle.vring_turns.specs.RxTurn.{rx_begun}
@@ -68,6 +68,7 @@ use Rattle.vhost_dev.specs.Settings.{hdr_of}
 abbrev pub ClaimsBy : World → ℕ → OnFiles → Onward → Type 0
 ClaimsBy w me (OnFile file (Claims actor name epoch len)) o =
     (actor ≡ me) × (f : File) × (seen : ℕ) × (x : Found) × (at w.files file ≡ Some f) × (o ≡ Goes seen (Placed file (claimed f) epoch len) x)
+ClaimsBy w me (OnFile file Shuts) o = (seen version : ℕ) × (x : Found) × (o ≡ Goes seen (Purges file version) x)
 ClaimsBy w me files o = Unit {0}
 
 abbrev pub Claiming : World → ℕ → Effect → Type 0
@@ -185,7 +186,8 @@ drops why w me actor n seen (Routed file epoch len) =
 drops why w me actor n seen d = tt
 
 shuts : (w : World) (me : ℕ) (seen : ℕ) (d : Doing) → AllClaim w me (ring.shuts w seen d)
-shuts w me seen (Withdrawn file version) = where_then (Claiming w me) (at w.files file) _ (λ f e1. tt)
+shuts w me seen (Withdrawn file version) =
+    where_then (Claiming w me) (at w.files file) _ (λ f e1. (seen, version, found.Claimed (claimed f), refl))
 shuts w me seen d = tt
 
 reopens : (w : World) (me : ℕ) (seen : ℕ) (d : Doing) → AllClaim w me (ring.reopens w seen d)

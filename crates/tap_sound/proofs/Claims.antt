@@ -2,6 +2,7 @@
 use Rattle.std.proofs.Common.{◌≡◌, ◌≢◌, ◌⊎◌, ℕ, zero, suc, ◌+◌, ◌-◌, List, [], ◌∷◌, ◌++◌, length, Bool, true, false, Option, Some, None, inl, inr, ⊎_elim, refl, sym, ap, ◌∙◌, subst, arith}
 use Rattle.std.specs.Prelude.{if◌then◌else◌, slice_get, drop}
 use Rattle.tap_frame.specs.declared.name.Name.{Name}
+use Rattle.tap_ledger.specs.declared.fate.Fate.{Fate}
 use Rattle.tap_world.specs.declared.event.Event.{Event}
 use Rattle.tap_world.specs.declared.event.EventKind.{EventKind}
 use Rattle.tap_world.specs.declared.event.EventKind.TheVariants as event
@@ -88,6 +89,15 @@ takes_traced : (vhost : ℕ) (f g : File) (b : Bool) (test : Bool)
 takes_traced vhost f g true test e = let o = only_some test _ g e in subst (λ (h : File). (h.first ≡ f.first) × Old f.line h.line) o.1 (refl, old_same f.line)
 takes_traced vhost f g false test e = let o = only_some test _ g e in subst (λ (h : File). (h.first ≡ f.first) × Old f.line h.line) o.1 (refl, old_filled 64 f.line)
 
+not_batched : (actor : ℕ) → Batched ≡ Claimed actor → ⊥
+not_batched actor h = cc (h)
+
+not_out : (fate : Fate) (actor : ℕ) → Out fate ≡ Claimed actor → ⊥
+not_out fate actor h = cc (h)
+
+not_cut : (actor : ℕ) → Cut ≡ Claimed actor → ⊥
+not_cut actor h = cc (h)
+
 trace : (c : Change) (f g : File) → changed c f ≡ Some g → Trace c f g
 trace (Claims actor name epoch len) f g e =
     let o = only_some _ _ g e in
@@ -97,15 +107,15 @@ trace (Puts actor place) f g e =
     let t = then_some (slice_get f.line (place - f.first)) _ g e in
     let o = only_some _ _ g t.2 in
     subst (Trace (Puts actor place) f) o.1 (refl, put_traced (place - f.first) f.line)
-trace Moves f g e = let i = if_some _ _ g e in shifted f g Batched (ready_front f.line) (λ actor h. cc (h)) i.1
+trace Moves f g e = let i = if_some _ _ g e in shifted f g Batched (ready_front f.line) (not_batched) i.1
 trace (Takes vhost) f g e = takes_traced vhost f g (has_batch f) _ e
 trace (PutsBack vhost) f g e = let o = only_some _ _ g e in subst (Trace (PutsBack vhost) f) o.1 (refl, old_same f.line)
 trace (Leaves worker fate) f g e =
-    let i = if_some (may_leave worker f) _ g e in shifted (record f { hand = None }) g (Out fate) (first_that in_batch f.line) (λ actor h. cc (h)) i.1
+    let i = if_some (may_leave worker f) _ g e in shifted (record f { hand = None }) g (Out fate) (first_that in_batch f.line) (not_out fate) i.1
 trace Shuts f g e = let o = only_some _ _ g e in subst (Trace Shuts f) o.1 (refl, old_same f.line)
 trace Reopens f g e = let o = only_some _ _ g e in subst (Trace Reopens f) o.1 (refl, old_same f.line)
 trace (Sizes capacity) f g e = let o = only_some _ _ g e in subst (Trace (Sizes capacity) f) o.1 (refl, old_same f.line)
-trace Cuts f g e = let i = if_some _ _ g e in shifted f g Cut (last_that in_ring f.line) (λ actor h. cc (h)) i.1
+trace Cuts f g e = let i = if_some _ _ g e in shifted f g Cut (last_that in_ring f.line) (not_cut) i.1
 trace (Owned owner) f g e = let o = only_some _ _ g e in subst (Trace (Owned owner) f) o.1 (refl, old_same f.line)
 
 -- ---- who holds a claim
@@ -134,7 +144,7 @@ held_on s w x u t file place actor e no_put h = ⊎_elim
     (λ other. (h.0, ap (λ (q : List Actor). slice_get q actor) (effect_actors t.effect x.actor t.actor x.command w t.between t.made) ∙ other.1, h.2))
     (with_nth_get x.actor (actor_after t.effect.onward t.actor) w.actors actor h.0 h.1)
 
-with_at_inv : {A : Type 0} (n : ℕ) (new : A) (xs : List (Option A)) (k : ℕ) (x : A) → at (with_at n new xs) k ≡ Some x
+pub with_at_inv : {A : Type 0} (n : ℕ) (new : A) (xs : List (Option A)) (k : ℕ) (x : A) → at (with_at n new xs) k ≡ Some x
     → ((n ≡ k) × (new ≡ x)) ⊎ ((n ≢ k) × (at xs k ≡ Some x))
 with_at_inv n new [] k x e = absurd (cc (e))
 with_at_inv zero new (y ∷ ys) zero x e = inl (refl, some_same new x e)

@@ -137,7 +137,7 @@ shifts_epochs f i s hand before h = record {
 
 pub course_epochs : (f g : File) → Course f g → HasEpochs f → HasEpochs g
 course_epochs f g (Grows actor name epoch len unshut spent full is) h =
-    let o = or_none _ _ unshut in
+    let o = or_none f.shut (not (f.epoch == epoch)) unshut in
     let same : f.epoch ≡ epoch = ⊎_elim (λ t. t.1) (λ t. absurd (true≢false (sym (not_false _ o.1) ∙ t.0))) (eqb_tells f.epoch epoch) in
     let e : Entry = record { name = name; epoch = epoch; len = len; stands = Claimed actor } in
     subst HasEpochs is (record {

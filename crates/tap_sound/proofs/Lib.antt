@@ -20,3 +20,5 @@ mod Standing
 mod Stand
 mod Claiming
 mod Claims
+mod Shut
+mod Reached

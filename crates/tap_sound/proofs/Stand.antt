@@ -17,7 +17,7 @@ use Rattle.tap_sound.proofs.Scripts.{effect_actors}
 use Rattle.tap_sound.proofs.Standing.{Leads, To, row_leads}
 use Rattle.tap_sound.proofs.Taken.{each_with_nth, step_is, when_settled}
 
-begun_stands : (seen : ℕ) (cs : List Numbered) → CanBe (record { seen = seen; script = cs; doing = Begun })
+pub begun_stands : (seen : ℕ) (cs : List Numbered) → CanBe (record { seen = seen; script = cs; doing = Begun })
 begun_stands seen [] = refl
 begun_stands seen (c ∷ cs) = refl
 

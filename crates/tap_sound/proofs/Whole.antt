@@ -82,10 +82,10 @@ order_is_run s seed events w h = phases_run (setup_of s) seed 0 s.phases events 
 -- ---- nothing is left
 
 -- an actor with nothing left has nothing under way
-abbrev IsAtRest : Actor → Type 0
+abbrev pub IsAtRest : Actor → Type 0
 IsAtRest a = a.script ≡ [] → a.doing ≡ Begun
 
-abbrev AtRest : World → Type 0
+abbrev pub AtRest : World → Type 0
 AtRest w = (i : ℕ) (a : Actor) → slice_get w.actors i ≡ Some a → IsAtRest a
 
 rests_after : (o : Onward) (a : Actor) (c : Numbered) (cs : List Numbered) → a.script ≡ c ∷ cs → IsAtRest (actor_after o a)
@@ -104,13 +104,13 @@ step_rests s w x u t rest =
     (λ e end. each_with_nth (λ i a. IsAtRest a) e.actor (record e.state { script = drop 1 e.state.script; doing = Begun }) t.between.actors between
     (λ none. refl)))
 
-run_rests : (s : Setup) (es : List Event) (w v : World) → run s es w ≡ Some v → AtRest w → AtRest v
+pub run_rests : (s : Setup) (es : List Event) (w v : World) → run s es w ≡ Some v → AtRest w → AtRest v
 run_rests s [] w v e rest = subst AtRest (some_same w v e) rest
 run_rests s (x ∷ es) w v e rest =
     let t = then_some (step s w x) _ v e in
     run_rests s es t.0.0 v t.2 (step_rests s w x t.0.0 (step_is s w x t.0 t.1) rest)
 
-begun_rest : (p : Phase) (seen from n i : ℕ) (a : Actor) → slice_get (actors_from p seen from n) i ≡ Some a → IsAtRest a
+pub begun_rest : (p : Phase) (seen from n i : ℕ) (a : Actor) → slice_get (actors_from p seen from n) i ≡ Some a → IsAtRest a
 begun_rest p seen from zero i a e = absurd (cc (e))
 begun_rest p seen from (suc n) zero a e = λ none. ap (λ (q : Actor). q.doing) (sym (some_same _ a e))
 begun_rest p seen from (suc n) (suc i) a e = begun_rest p seen (from + 1) n i a e

@@ -9,7 +9,7 @@ use Rattle.tap_world.specs.Line.{File, claimed, count, in_batch}
 use Rattle.tap_world.specs.World.{World, table}
 use Rattle.tap_world.specs.Step.{step}
 use Rattle.tap_world.specs.SoundActors.{CanBe}
-use Rattle.tap_world.specs.Sound.{ClaimIsHeld, EachActor, EachFile, HasEpochs, HasRoom, HasSeen, InThreeParts, capacity_before}
+use Rattle.tap_world.specs.Sound.{ClaimIsHeld, EachActor, EachFile, HasEpochs, HasRoom, HasSeen, InThreeParts, IsEmptyWhenShut, capacity_before}
 
 -- Every event keeps that epochs never fall along a line, and that what waits has the gate's.
 abbrev pub EpochsAreKept : Type 0
@@ -60,3 +60,9 @@ abbrev pub ClaimsAreKept : Type 0
 ClaimsAreKept =
     (s : Setup) (w : World) (e : Event) (u : World × Heard) → step s w e ≡ Some u
     → EachFile w (ClaimIsHeld w) → EachFile u.0 (ClaimIsHeld u.0)
+
+-- Every event keeps that nothing waits behind a shut gate, but where a detach is emptying the file.
+abbrev pub ShutIsKept : Type 0
+ShutIsKept =
+    (s : Setup) (w : World) (e : Event) (u : World × Heard) → step s w e ≡ Some u
+    → EachFile w (IsEmptyWhenShut w) → EachFile u.0 (IsEmptyWhenShut u.0)

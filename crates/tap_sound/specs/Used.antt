@@ -19,4 +19,5 @@ IsCounted l = map (λ (c : Published). c.0) l.used ≡ positions_from l.base (le
 abbrev pub UsedIsCounted : Type 0
 UsedIsCounted =
     (s : Setup) (w : World) (vhost ring : ℕ) (v : Vhost) → IsSound s w → at w.vhosts vhost ≡ Some v
-    → AllByRecursion IsCounted (lists_from (ring_at ring v.settings).lists (ring_at ring v.settings).queue.positions.journal)
+    → AllByRecursion IsCounted
+    (lists_from (ring_at ring v.settings).lists (ring_at ring v.settings).queue.positions.journal)

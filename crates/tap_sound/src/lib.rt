@@ -1,11 +1,14 @@
 //! What is true of every run of a scenario: laws, each a function that does nothing. The statements stand in `specs/`.
 //!
-//! `specs/Laws.antt` says that a run's events are the scripts of its commands, and that nothing is left undone. The
-//! proofs begin with `proofs/Kit.antt` and `proofs/Taken.antt`, which take a step apart.
+//! `specs/Laws.antt` says that a run's events are the scripts of its commands, and that nothing is left undone;
+//! `specs/Kept.antt` what each event keeps of what is sound; `specs/Reached.antt` what therefore holds in every world of
+//! a run; `specs/Used.antt` what a trace tells of published chains. The proofs begin with `proofs/Kit.antt` and
+//! `proofs/Taken.antt`, which take a step apart.
 #![tactic(auto)]
 
-ghost use Rattle.tap_sound.specs.Kept.{ClaimsAreKept, EpochsAreKept, LinesAreKept, RoomIsKept, StandsAreKept, VersionsAreKept};
+ghost use Rattle.tap_sound.specs.Kept.{ClaimsAreKept, EpochsAreKept, LinesAreKept, RoomIsKept, ShutIsKept, StandsAreKept, VersionsAreKept};
 ghost use Rattle.tap_sound.specs.Laws.{AllIsDone, EventsAreScripts, EventsBeginScripts, OrderIsRun};
+ghost use Rattle.tap_sound.specs.Reached.{PhaseIsKept, RunIsKept};
 ghost use Rattle.tap_sound.specs.Used.{UsedIsCounted};
 
 /// In a run the events of each actor are the scripts of its commands, one after another; on the way to its end the last
@@ -54,4 +57,15 @@ pub fn stands_are_kept()
 /// Every event keeps that a place which is claimed and not put belongs to an actor that is about to put it.
 pub fn claims_are_kept()
     ensures { ClaimsAreKept }
+{}
+
+/// Every event keeps that nothing waits behind a shut gate, but where a detach is emptying the file.
+pub fn shut_is_kept()
+    ensures { ShutIsKept }
+{}
+
+/// So these parts of soundness hold in each world that a run ends in, and in each world on the way.
+pub fn run_is_kept()
+    ensures whole { RunIsKept }
+    ensures phase { PhaseIsKept }
 {}

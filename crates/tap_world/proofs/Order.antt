@@ -1,8 +1,8 @@
 -- Frames leave a line in the order placed.
-use Rattle.std.proofs.Common.{◌≡◌, ◌⊎◌, ℕ, zero, suc, ◌<◌, ◌≤◌, List, [], ◌∷◌, Option, Some, None, true, false, true≢false, refl, sym, ap, ◌∙◌, subst, inl, inr, ⊎_elim, arith}
+use Rattle.std.proofs.Common.{◌≡◌, ◌⊎◌, ℕ, zero, suc, ◌<◌, ◌≤◌, List, [], ◌∷◌, Some, true, true≢false, sym, ap, ◌∙◌, subst, inl, inr, ⊎_elim, arith}
 use Rattle.std.specs.Prelude.{slice_get}
 use Rattle.tap_ledger.specs.declared.fate.Fate.{Fate}
-use Rattle.tap_world.specs.Line.{Entry, Standing}
+use Rattle.tap_world.specs.Line.{Entry}
 use Rattle.tap_world.specs.Line.Standing.{Out}
 use Rattle.tap_world.specs.Sound.{ComesLast, InThreeParts, is_cut, rank}
 

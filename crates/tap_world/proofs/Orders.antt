@@ -1,12 +1,12 @@
 -- A seed picks one run.
-use Rattle.std.proofs.Common.{◌≡◌, ℕ, ◌+◌, List, [], ◌∷◌, Option, Some, None, true, refl, sym, ap, ◌∙◌, subst}
+use Rattle.std.proofs.Common.{◌≡◌, ℕ, ◌+◌, List, [], ◌∷◌, Some, refl, sym, ap, ◌∙◌, subst}
 use Rattle.scen_text.specs.declared.scenario.Phase.{Phase}
 use Rattle.tap_world.specs.declared.event.Event.{Event}
 use Rattle.tap_world.specs.declared.event.Heard.{Heard}
 use Rattle.tap_world.specs.Setup.{Setup}
 use Rattle.tap_world.specs.World.{World}
 use Rattle.tap_world.specs.Step.{step}
-use Rattle.tap_world.specs.Runs.{AreChosen, IsChosen, begins, choices, moved_on, picked}
+use Rattle.tap_world.specs.Runs.{AreChosen, IsChosen, begins, moved_on}
 
 some_same : {A : Type 0} (x y : A) → Some x ≡ Some y → x ≡ y
 some_same x y e = cc (e)

@@ -21,7 +21,7 @@ use Rattle.tap_world.specs.Line.Standing.{Batched, Claimed, Cut, Out, Ready}
 use Rattle.tap_world.specs.World.{Actor, Doing, Said, World, current, name_of, newest, table}
 use Rattle.tap_world.specs.World.Doing.{Backed, Backs, Begun, Changes, Disowned, Opened, Opens, Owns, Placed, Purges, Receives, Released, Resizes, Shrinks, Unbacked, Withdrawn, Withdraws}
 use Rattle.tap_world.specs.SoundActors.{CanBe}
-use Rattle.tap_world.specs.SoundRings.{HasRings, IsActor, IsServed, TurnsAreHeld}
+use Rattle.tap_world.specs.SoundRings.{HasRings, IsActor, IsServed, TurnsAreHeld, is_about}
 
 -- ---- each file, each vhost, each actor
 
@@ -224,12 +224,16 @@ abbrev pub is_receiving : ℕ → Doing → Bool
 is_receiving file (Receives other t) = other == file && is_some t.held
 is_receiving file doing = false
 
+-- an actor is at a worker's receive turn on the file, with a frame in hand
+abbrev pub is_serving : ℕ → ℕ → Actor → Bool
+is_serving vhost file a = is_receiving file a.doing && is_about vhost 0 (current a.script)
+
 -- A frame in hand is the batch's front, its worker owns the file, and that worker's receive turn is under way.
 abbrev pub HandIsOwners : World → ℕ → File → Type 0
 HandIsOwners w file f =
     (vhost : ℕ) → f.hand ≡ Some vhost
     → (f.owner ≡ Some vhost) × (is_some (first_that in_batch f.line) ≡ true)
-    × (list_any (λ (a : Actor). is_receiving file a.doing) w.actors ≡ true)
+    × (list_any (is_serving vhost file) w.actors ≡ true)
 
 -- ---- 9: versions
 

@@ -1,5 +1,5 @@
 -- This project's own: how far each command can have come.
-use Rattle.std.specs.Prelude.{ℕ, ◌==◌, ◌≡◌, ◌&&◌, not, Bool, true, false, Option, Some, None}
+use Rattle.std.specs.Prelude.{ℕ, ◌==◌, ◌≡◌, ◌&&◌, not, Bool, true, false, Some, None}
 use Rattle.std.specs.Option.{option_map_or}
 use Rattle.tap_steer.specs.declared.operation.TheConstants.{IFF_ATTACH_QUEUE}
 use Rattle.tap_steer.specs.Table.{is_set}

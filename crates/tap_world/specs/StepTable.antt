@@ -7,7 +7,6 @@ use Rattle.tap_flow_key.specs.FlowKey.{hash}
 use Rattle.tap_frame.specs.declared.name.Name.{Name}
 use Rattle.tap_frame.specs.declared.reading.BadFrame.{BadFrame}
 use Rattle.tap_ledger.specs.declared.fate.Cause.TheVariants as cause
-use Rattle.tap_queues.specs.declared.queues.Row.{Row}
 use Rattle.tap_steer.specs.declared.error.TapErr.{TapErr}
 use Rattle.tap_steer.specs.declared.files.Attachment.{Attachment}
 use Rattle.tap_steer.specs.declared.files.Attachment.TheVariants.{Enabled}

@@ -19,7 +19,6 @@ use Rattle.vring_turns.specs.declared.stage.RxStage.{RxStage}
 use Rattle.vring_turns.specs.declared.stage.RxStage.TheVariants as rx
 use Rattle.vring_turns.specs.ReceiveImage.{need_of}
 use Rattle.vring_turns.specs.RxTurn.{RxState, RxTurn, overrun, rx_begun, rx_step}
-use Rattle.vring_turns.specs.TxTurn.{TxTurn}
 use Rattle.scen_words.specs.declared.command.Command.{Command}
 use Rattle.scen_words.specs.declared.command.Command.TheVariants as command
 use Rattle.tap_trace.specs.declared.answer.Answer.TheVariants as answer
@@ -32,7 +31,7 @@ use Rattle.tap_world.specs.declared.event.Found.TheVariants as found
 use Rattle.tap_world.specs.Then.{◌>>=◌, only_if}
 use Rattle.tap_world.specs.ByNumber.{at}
 use Rattle.tap_world.specs.Frames.{FrameText}
-use Rattle.tap_world.specs.Guests.{Guest, Vhost, is_free, with_queue, with_turn}
+use Rattle.tap_world.specs.Guests.{Vhost, is_free, with_queue, with_turn}
 use Rattle.tap_world.specs.Setup.{Setup, frame_of}
 use Rattle.tap_world.specs.Line.{Entry, File, first_that, front_place, in_batch}
 use Rattle.tap_world.specs.LineSteps.{changed, ready_front}
