@@ -1,3 +1,4 @@
 pub mod Floats
 pub mod Loops
+pub mod Settings
 pub mod Totals

@@ -76,7 +76,7 @@ device_more fs now after names i name d lt is so_far new =
     ∙ ap (λ k. device_rows fs 0 (take i names) ++ device_row fs k name ∷ []) (sym count)
     ∙ sym (device_rows-push fs 0 (take i names) name) ∙ ap (device_rows fs 0) (sym (front_is names i name d lt is))
 
-back_is : {A : Type 0} (xs : List A) (n : ℕ) (x d : A) → 0 < n → n ≤ length xs → x ≡ get_or xs (n - 1) d → reverse (take n xs) ≡ x ∷ reverse (take (n - 1) xs)
+pub back_is : {A : Type 0} (xs : List A) (n : ℕ) (x d : A) → 0 < n → n ≤ length xs → x ≡ get_or xs (n - 1) d → reverse (take n xs) ≡ x ∷ reverse (take (n - 1) xs)
 back_is xs n x d some within is =
     let next : n ≡ n - 1 + 1 = omega arith in
     let lt : n - 1 < length xs = omega arith in

@@ -12,7 +12,7 @@ use Rattle.tap_trace.specs.declared.trace.Trace.{Trace}
 use Rattle.tap_trace.specs.declared.turn.ChainText.{ChainText}
 use Rattle.tap_trace.specs.declared.turn.ChainText.TheVariants.{Got, Refused}
 use Rattle.tap_report.specs.declared.frames.Counted.{Counted}
-use Rattle.tap_report.specs.declared.index.Backing.{Backing}
+use Rattle.tap_report.specs.declared.history.Setting.{Setting}
 use Rattle.tap_report.specs.declared.index.Index.{Index}
 use Rattle.tap_report.specs.declared.index.Role.{Role}
 use Rattle.tap_report.specs.declared.index.Role.TheVariants.{Sends, Writes, Transmits}
@@ -36,7 +36,7 @@ sent_len role = 0
 abbrev pub hosting_file : Index → ℕ → Role → Option ℕ
 hosting_file x seen (Writes file) = Some file
 hosting_file x seen (Transmits vhost) =
-    option_and_then (λ (b : Backing). Some b.file) (backing_at x.backings vhost seen)
+    option_and_then (λ (s : Setting). s.value) (backing_at x.backings vhost seen)
 hosting_file x seen role = None
 
 -- the device for which its hosted frames count

@@ -15,8 +15,7 @@ use Rattle.tap_trace.specs.declared.trace.OpText.{OpText}
 use Rattle.tap_trace.specs.declared.trace.OpText.TheVariants.{SetIff, Back}
 use Rattle.tap_trace.specs.declared.trace.PhasePart.{PhasePart}
 use Rattle.tap_trace.specs.declared.trace.Trace.{Trace}
-use Rattle.tap_report.specs.declared.index.Attachment.{Attachment}
-use Rattle.tap_report.specs.declared.index.Backing.{Backing}
+use Rattle.tap_report.specs.declared.history.Setting.{Setting}
 use Rattle.tap_report.specs.declared.index.Role.{Role}
 use Rattle.tap_report.specs.declared.index.Role.TheVariants.{Sends, Writes, Receives, Transmits, Backs, Other}
 
@@ -52,54 +51,54 @@ abbrev pub number_among : List (List ℕ) → List ℕ → Option ℕ
 number_among names name = position (λ n. bytes_eq n name) names
 
 -- the attachment that an operation is
-abbrev pub attached : List (List ℕ) → ℕ → OpText → List Attachment
+abbrev pub attached : List (List ℕ) → ℕ → OpText → List Setting
 attached names version (SetIff file name flags) =
-    record { version = version; file = file; device = number_among names name } ∷ []
+    record { version = version; key = file; value = number_among names name } ∷ []
 attached names version op = []
 
-abbrev pub op_attached : List (List ℕ) → OpLine → List Attachment
+abbrev pub op_attached : List (List ℕ) → OpLine → List Setting
 op_attached names o = attached names o.version o.text
 
 -- those of a phase, and all of them, in the order of the trace
-abbrev pub phase_attachments : List (List ℕ) → PhasePart → List Attachment
+abbrev pub phase_attachments : List (List ℕ) → PhasePart → List Setting
 phase_attachments names p = flat_map (op_attached names) p.ops
 
-abbrev pub attachments : List (List ℕ) → Trace → List Attachment
+abbrev pub attachments : List (List ℕ) → Trace → List Setting
 attachments names t = flat_map (phase_attachments names) t.phases
 
 -- the transmit backend that an operation sets
-abbrev pub backed : ℕ → OpText → List Backing
-backed version (Back file Tx (Some vhost)) = record { version = version; vhost = vhost; file = file } ∷ []
+abbrev pub backed : ℕ → OpText → List Setting
+backed version (Back file Tx (Some vhost)) = record { version = version; key = vhost; value = Some file } ∷ []
 backed version op = []
 
-abbrev pub op_backed : OpLine → List Backing
+abbrev pub op_backed : OpLine → List Setting
 op_backed o = backed o.version o.text
 
 -- those of a phase, and all of them, in the order of the trace
-abbrev pub phase_backings : PhasePart → List Backing
+abbrev pub phase_backings : PhasePart → List Setting
 phase_backings p = flat_map op_backed p.ops
 
-abbrev pub backings : Trace → List Backing
+abbrev pub backings : Trace → List Setting
 backings t = flat_map phase_backings t.phases
 
 -- ---- the device of a frame
 
--- the file was attached at a version up to this one
-abbrev pub attaches : ℕ → ℕ → Attachment → Bool
-attaches file seen a = a.file == file && nat_le a.version seen
+-- it was set for this file or vhost by a version up to this one
+abbrev pub sets : ℕ → ℕ → Setting → Bool
+sets key seen s = s.key == key && nat_le s.version seen
+
+-- by any version
+abbrev pub sets_ever : ℕ → Setting → Bool
+sets_ever key s = s.key == key
+
+-- the last that was set up to a version
+abbrev pub latest : List Setting → ℕ → ℕ → Option Setting
+latest all key seen = find (sets key seen) (reverse all)
 
 -- the device to which a file was attached by its last attachment up to a version
-abbrev pub device_at : List Attachment → ℕ → ℕ → Option ℕ
-device_at all file seen = option_and_then (λ (a : Attachment). a.device) (find (attaches file seen) (reverse all))
-
--- the vhost was given a backend at a version up to this one
-abbrev pub backs : ℕ → ℕ → Backing → Bool
-backs vhost seen b = b.vhost == vhost && nat_le b.version seen
-
--- the vhost was given a backend at any version
-abbrev pub backs_ever : ℕ → Backing → Bool
-backs_ever vhost b = b.vhost == vhost
+abbrev pub device_at : List Setting → ℕ → ℕ → Option ℕ
+device_at all file seen = option_and_then (λ (s : Setting). s.value) (latest all file seen)
 
 -- the transmit backend of a vhost: the last one up to a version, and where there is none the first one after it
-abbrev pub backing_at : List Backing → ℕ → ℕ → Option Backing
-backing_at bs vhost seen = option_or (find (backs vhost seen) (reverse bs)) (find (backs_ever vhost) bs)
+abbrev pub backing_at : List Setting → ℕ → ℕ → Option Setting
+backing_at all vhost seen = option_or (latest all vhost seen) (find (sets_ever vhost) all)

@@ -1,6 +1,7 @@
 pub mod Examples
 pub mod Following
 pub mod Frames
+pub mod History
 pub mod Index
 pub mod Json
 pub mod Report

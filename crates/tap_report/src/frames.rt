@@ -39,14 +39,14 @@ fn sent_len(role: Role) -> u32
 }
 
 // The file that a `write` or a transmit turn has a frame of.
-fn hosting_file(index: &Index, seen: u64, role: Role) -> Option<u16>
+fn hosting_file(index: &Index, seen: u64, role: Role) -> Option<usize>
     ensures { result ≡ hosting_file index.now seen role }
 {
     match role {
-        Role::Writes { file } => Some(file),
+        Role::Writes { file } => Some(usize::from(file)),
         Role::Transmits { vhost } => {
-            let backing = backing_at(index.backings.as_slice(), vhost, seen)?;
-            Some(backing.file)
+            let backing = backing_at(&index.backings, usize::from(vhost), seen)?;
+            backing.value
         }
         _ => None,
     }
@@ -57,7 +57,7 @@ fn hosting_device(index: &Index, seen: u64, role: Role) -> Option<usize>
     ensures { result ≡ hosting_device index.now seen role }
 {
     let file = hosting_file(index, seen, role)?;
-    device_at(index.attachments.as_slice(), file, seen)
+    device_at(&index.attachments, file, seen)
 }
 
 fn push_chain(

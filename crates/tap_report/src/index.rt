@@ -1,10 +1,11 @@
 //! What the report looks up: the commands by number, the attachments and the backends.
 
-ghost use Rattle.std.specs.Prelude.{◌≡◌, ◌++◌, OnOk, IfOk, find, map, reverse};
+ghost use Rattle.std.specs.Prelude.{◌≡◌, ◌++◌, OnOk, IfOk, map};
 ghost use Rattle.std.specs.List.{flat_map};
-ghost use Rattle.tap_report.specs.Index.{attached, attaches, backed, backing_at, backs, backs_ever, device_at, line_role, number_among, op_attached, op_backed, phase_attachments, phase_backings, phase_roles, role_at, role_of};
+ghost use Rattle.tap_report.specs.Index.{attached, backed, backing_at, device_at, line_role, number_among, op_attached, op_backed, phase_attachments, phase_backings, phase_roles, role_at, role_of};
 ghost use Rattle.tap_report.specs.Rows.{index_of};
 
+use crate::history::{History, Setting};
 use scen_text::{Line, Phase, Scenario};
 use scen_words::Command;
 use sqlite_items::Items;
@@ -32,32 +33,15 @@ pub enum Role {
     Other,
 }
 
-/// An operation that attached a file.
-#[derive(Clone, Copy, Debug, PartialEq, Eq)]
-pub struct Attachment {
-    pub version: u64,
-    pub file: u16,
-    /// The number of the device's name among the scenario's names, where it is one of them.
-    pub device: Option<usize>,
-}
-
-/// An operation that gave a file's transmit side a backend.
-#[derive(Clone, Copy, Debug, PartialEq, Eq)]
-pub struct Backing {
-    pub version: u64,
-    pub vhost: u16,
-    pub file: u16,
-}
-
 /// All that is looked up.
 #[derive(Debug, Drop)]
 pub struct Index {
     /// What each command is, by its number.
     pub roles: Items<Role>,
     /// The attachments, in the order of the trace.
-    pub attachments: Items<Attachment>,
+    pub attachments: History,
     /// The transmit backends, in the order of the trace.
-    pub backings: Items<Backing>,
+    pub backings: History,
 }
 
 fn role_of(command: &Command) -> Role
@@ -119,7 +103,7 @@ fn number_among(names: &[DeviceName], name: &DeviceName) -> Option<usize>
 }
 
 fn push_attached(
-    out: &mut Items<Attachment>,
+    out: &mut Items<Setting>,
     names: &[DeviceName],
     version: u64,
     op: &OpText,
@@ -127,17 +111,17 @@ fn push_attached(
     ensures { OnOk result (out.new ≡ out.old ++ attached names.now version op.now) }
 {
     match op {
-        OpText::SetIff { file, name, .. } => out.push(Attachment {
+        OpText::SetIff { file, name, .. } => out.push(Setting {
             version,
-            file: *file,
-            device: number_among(names, name),
+            key: *file,
+            value: number_among(names, name),
         }),
         _ => Ok(()),
     }
 }
 
 fn push_op_attached(
-    out: &mut Items<Attachment>,
+    out: &mut Items<Setting>,
     names: &[DeviceName],
     op: &OpLine,
 ) -> Result<(), AllocError>
@@ -147,7 +131,7 @@ fn push_op_attached(
 }
 
 fn push_ops_attached(
-    out: &mut Items<Attachment>,
+    out: &mut Items<Setting>,
     names: &[DeviceName],
     ops: &[OpLine],
 ) -> Result<(), AllocError>
@@ -160,7 +144,7 @@ fn push_ops_attached(
 }
 
 fn push_attachments(
-    out: &mut Items<Attachment>,
+    out: &mut Items<Setting>,
     names: &[DeviceName],
     phase: &PhasePart,
 ) -> Result<(), AllocError>
@@ -173,7 +157,7 @@ fn attachments(
     alloc: Global,
     names: &[DeviceName],
     phases: &[PhasePart],
-) -> Result<Items<Attachment>, AllocError>
+) -> Result<Items<Setting>, AllocError>
     ensures { IfOk result (λ r. r ≡ flat_map (phase_attachments names.now) phases.now) }
 {
     let mut out = Items::new(alloc);
@@ -183,7 +167,7 @@ fn attachments(
     Ok(out)
 }
 
-fn push_backed(out: &mut Items<Backing>, version: u64, op: &OpText) -> Result<(), AllocError>
+fn push_backed(out: &mut Items<Setting>, version: u64, op: &OpText) -> Result<(), AllocError>
     ensures { OnOk result (out.new ≡ out.old ++ backed version op.now) }
 {
     match op {
@@ -191,22 +175,22 @@ fn push_backed(out: &mut Items<Backing>, version: u64, op: &OpText) -> Result<()
             file,
             side: Side::Tx,
             vhost: Some(vhost),
-        } => out.push(Backing {
+        } => out.push(Setting {
             version,
-            vhost: *vhost,
-            file: *file,
+            key: *vhost,
+            value: Some(usize::from(*file)),
         }),
         _ => Ok(()),
     }
 }
 
-fn push_op_backed(out: &mut Items<Backing>, op: &OpLine) -> Result<(), AllocError>
+fn push_op_backed(out: &mut Items<Setting>, op: &OpLine) -> Result<(), AllocError>
     ensures { OnOk result (out.new ≡ out.old ++ op_backed op.now) }
 {
     push_backed(out, op.version, &op.text)
 }
 
-fn push_ops_backed(out: &mut Items<Backing>, ops: &[OpLine]) -> Result<(), AllocError>
+fn push_ops_backed(out: &mut Items<Setting>, ops: &[OpLine]) -> Result<(), AllocError>
     ensures { OnOk result (out.new ≡ out.old ++ flat_map op_backed ops.now) }
 {
     for op in ops {
@@ -215,13 +199,13 @@ fn push_ops_backed(out: &mut Items<Backing>, ops: &[OpLine]) -> Result<(), Alloc
     Ok(())
 }
 
-fn push_backings(out: &mut Items<Backing>, phase: &PhasePart) -> Result<(), AllocError>
+fn push_backings(out: &mut Items<Setting>, phase: &PhasePart) -> Result<(), AllocError>
     ensures { OnOk result (out.new ≡ out.old ++ phase_backings phase.now) }
 {
     push_ops_backed(out, phase.ops.as_slice())
 }
 
-fn backings(alloc: Global, phases: &[PhasePart]) -> Result<Items<Backing>, AllocError>
+fn backings(alloc: Global, phases: &[PhasePart]) -> Result<Items<Setting>, AllocError>
     ensures { IfOk result (λ r. r ≡ flat_map phase_backings phases.now) }
 {
     let mut out = Items::new(alloc);
@@ -235,89 +219,33 @@ fn backings(alloc: Global, phases: &[PhasePart]) -> Result<Items<Backing>, Alloc
 pub fn index_of(alloc: Global, scenario: &Scenario, trace: &Trace) -> Result<Index, AllocError>
     ensures { IfOk result (λ x. x ≡ index_of scenario.now trace.now) }
 {
+    let phases = trace.phases.as_slice();
     Ok(Index {
         roles: roles(alloc, scenario.phases.as_slice())?,
-        attachments: attachments(alloc, scenario.names.as_slice(), trace.phases.as_slice())?,
-        backings: backings(alloc, trace.phases.as_slice())?,
+        attachments: History::of(
+            alloc,
+            attachments(alloc, scenario.names.as_slice(), phases)?,
+        )?,
+        backings: History::of(alloc, backings(alloc, phases)?)?,
     })
 }
 
-fn attaches(file: u16, seen: u64, attachment: Attachment) -> bool
-    ensures { result ≡ attaches file seen attachment }
-{
-    attachment.file == file && attachment.version <= seen
-}
-
-// The last attachment of a file up to a version.
-fn last_attachment(attachments: &[Attachment], file: u16, seen: u64) -> Option<Attachment>
-    ensures { result ≡ find (attaches file seen) (reverse attachments.now) }
-{
-    let mut left = attachments.len();
-    while left > 0 {
-        left -= 1;
-        let attachment = attachments[left];
-        if attaches(file, seen, attachment) {
-            return Some(attachment);
-        }
-    }
-    None
-}
-
 /// The device to which a file was attached by its last attachment up to a version.
-pub fn device_at(attachments: &[Attachment], file: u16, seen: u64) -> Option<usize>
+pub fn device_at(attachments: &History, file: usize, seen: u64) -> Option<usize>
     ensures { result ≡ device_at attachments.now file seen }
 {
-    match last_attachment(attachments, file, seen) {
-        Some(attachment) => attachment.device,
+    match attachments.latest(file, seen) {
+        Some(attachment) => attachment.value,
         None => None,
     }
 }
 
-fn backs(vhost: u16, seen: u64, backing: Backing) -> bool
-    ensures { result ≡ backs vhost seen backing }
-{
-    backing.vhost == vhost && backing.version <= seen
-}
-
-// The last transmit backend of a vhost up to a version.
-fn last_backing(backings: &[Backing], vhost: u16, seen: u64) -> Option<Backing>
-    ensures { result ≡ find (backs vhost seen) (reverse backings.now) }
-{
-    let mut left = backings.len();
-    while left > 0 {
-        left -= 1;
-        let backing = backings[left];
-        if backs(vhost, seen, backing) {
-            return Some(backing);
-        }
-    }
-    None
-}
-
-fn backs_ever(vhost: u16, backing: Backing) -> bool
-    ensures { result ≡ backs_ever vhost backing }
-{
-    backing.vhost == vhost
-}
-
-// The first transmit backend of a vhost.
-fn first_backing(backings: &[Backing], vhost: u16) -> Option<Backing>
-    ensures { result ≡ find (backs_ever vhost) backings.now }
-{
-    for backing in backings {
-        if backs_ever(vhost, *backing) {
-            return Some(*backing);
-        }
-    }
-    None
-}
-
 /// The transmit backend of a vhost: the last one up to a version, and where there is none the first one after it.
-pub fn backing_at(backings: &[Backing], vhost: u16, seen: u64) -> Option<Backing>
+pub fn backing_at(backings: &History, vhost: usize, seen: u64) -> Option<Setting>
     ensures { result ≡ backing_at backings.now vhost seen }
 {
-    match last_backing(backings, vhost, seen) {
+    match backings.latest(vhost, seen) {
         Some(backing) => Some(backing),
-        None => first_backing(backings, vhost),
+        None => backings.first(vhost),
     }
 }

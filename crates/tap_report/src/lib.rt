@@ -10,6 +10,7 @@
 mod examples;
 mod following;
 mod frames;
+mod history;
 mod index;
 mod json;
 mod printing;

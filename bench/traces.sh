@@ -1,0 +1,63 @@
+#!/bin/sh
+# Times the trace and the report of a run: `tapsim plain`, as text and as JSON, on 20,000 and on 200,000 commands of one
+# file (frames of 60 bytes, a read for every send, up to 500 frames waiting in a ring of 1,024), and beside each
+# `tapsim check` on the same scenario, so that what is left is the run, its trace and its report. It prints the processor
+# time, the megabytes of output a second and the peak memory; then 200,000 against 20,000 (at most 12 times), and what is
+# left against sha256sum of the output. It times the program itself, which bin/tapsim builds first where that is needed.
+# It needs GNU time as /usr/bin/time.
+set -eu
+top=$(CDPATH= cd -- "$(dirname -- "$0")/.." && pwd)
+program=$top/crates/tapsim/out/tapsim
+scratch=$(mktemp -d)
+trap 'rm -rf "$scratch"' EXIT
+
+# scenario COMMANDS: the frames that `gen` makes, sent to one file in rounds of 500 and read again.
+scenario() {
+    "$program" gen 100000 </dev/null | awk -v commands="$1" '
+        BEGIN { print "tapscen 1"; print "file 0 1024"; print "setiff 0 tap0 1102"; left = commands - 2 }
+        $2 == "send" && left > 1 {
+            print "send tap0 - " $5
+            waiting++
+            left -= 2
+            if (waiting == 500 || left < 2) for (; waiting > 0; waiting--) print "read 0 131072"
+        }
+        END { print "read 0 131072" }'
+}
+
+# measure NAME TIMES WORDS ..: three times runs the program so often on scratch/NAME, and prints the figures of one run
+# of the fastest; the seconds stay in scratch/NAME.LAST, LAST the last word.
+measure() {
+    name=$1
+    times=$2
+    shift 2
+    for last; do :; done
+    for run in 1 2 3; do
+        /usr/bin/time -o "$scratch/run" -f '%U %S %M' sh -c '
+            in=$1; times=$2; shift 2
+            while [ "$times" -gt 0 ]; do "$@" <"$in" >"$in.out" || exit; times=$((times - 1)); done' \
+            measure "$scratch/$name" "$times" "$program" "$@" || { echo "$name $*: status $?"; exit 1; }
+        awk -v times="$times" '{ print ($1 + $2) / times, $3 }' "$scratch/run"
+    done | sort -n | head -1 >"$scratch/$name.$last"
+    awk -v name="$name $*" -v size="$(wc -c <"$scratch/$name.out")" '{
+        seconds = $1 > 0 ? $1 : 0.001
+        printf "%s: %.3f s, %.1f MB/s, output %.1f MB, peak %.1f MiB\n", name, $1, size / 1e6 / seconds, size / 1e6, $2 / 1024
+    }' "$scratch/$name.$last"
+}
+
+"$top/bin/tapsim" plain <"$top/examples/two_sends.tapscen" >"$scratch/built"
+scenario 20000 >"$scratch/small"
+scenario 200000 >"$scratch/many"
+measure small 20 check
+measure small 20 plain --json
+measure small 20 plain
+measure many 2 check
+measure many 2 plain --json
+measure many 2 plain
+for run in 1 2 3; do
+    /usr/bin/time -o "$scratch/run" -f '%U %S' sha256sum "$scratch/many.out" >"$scratch/sum.out"
+    awk '{ print $1 + $2 }' "$scratch/run"
+done | sort -n | head -1 >"$scratch/sum"
+awk 'FNR == 1 { t[++n] = $1 > 0 ? $1 : 0.001 }
+    END { printf "many/small: text %.1f times, JSON %.1f times (at most 12); run, trace and report/sha256sum: %.1f times\n",
+        t[2] / t[1], t[4] / t[3], (t[2] - t[5]) / t[6] }' \
+    "$scratch/small.plain" "$scratch/many.plain" "$scratch/small.--json" "$scratch/many.--json" "$scratch/many.check" "$scratch/sum"
