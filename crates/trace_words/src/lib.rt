@@ -8,16 +8,27 @@
 //! the causes, and `specs/Fits.antt` the ranges of the numbers.
 #![tactic(auto)]
 
+mod answer_reading;
 mod answers;
+mod cause_reading;
+mod cause_words;
 mod causes;
 mod dropped;
+mod fields;
+mod laws;
+mod line_reading;
+mod op_reading;
 mod operations;
 mod places;
 mod said;
 mod shown;
+mod step_reading;
 mod steps;
+mod words;
 
 pub use answers::put_answer;
+pub use laws::said_laws;
+pub use line_reading::said_of;
 pub use operations::put_op;
 pub use places::put_place;
 pub use said::Said;
