@@ -1,6 +1,7 @@
 pub mod AnswerLaws
 pub mod CauseLaws
 pub mod CauseWordLaws
+pub mod ChainSteps
 pub mod Chains
 pub mod Cuts
 pub mod DigitsFit
