@@ -1,5 +1,5 @@
 -- Causes and fates: what is written is read again, and what was read is written so.
-use Rattle.std.proofs.Common.{◌≡◌, ℕ, List, [], ◌∷◌, Option, Some, None, refl, ap, subst, sym, ◌∙◌}
+use Rattle.std.proofs.Common.{◌≡◌, ℕ, List, [], ◌∷◌, Option, Some, None, refl, ap, subst, ◌∙◌}
 use Rattle.std.specs.Prelude.{codes}
 use Rattle.std.specs.Fmt.{decimal}
 use Rattle.std.specs.Option.{option_map}
@@ -33,10 +33,10 @@ use Rattle.trace_words.specs.declared.cause_words.VhostWord.TheVariants as vhost
 use Rattle.trace_words.specs.Answers.{answer_fields}
 use Rattle.trace_words.specs.Causes.{cause_fields, drive_fields, fate_fields, invalid_word, tap_fields, vhost_fields}
 use Rattle.trace_words.specs.CauseReading.{derr_behind, derr_in, drop_behind, drop_in, e2big_in, eagain_in, ebusy_in, ehdr_in, einval_in, err_behind, err_in, fate_behind, fate_in, full_in, gone_in, outside_in, overrun_in, place_in, ring_full_in, room_or_invalid, room_or_word, spent_in, stray_in, too_long_in, verr_behind, verr_in}
-use Rattle.trace_words.specs.CauseWords.{big_of, busy_of, drive_spelling, drop_spelling, err_spelling, fate_spelling, invalid_of, vhost_spelling}
+use Rattle.trace_words.specs.CauseWords.{busy_of, drive_spelling, drop_spelling, err_spelling, fate_spelling, invalid_of, vhost_spelling}
 use Rattle.trace_words.specs.Fits.{FitAnswer, FitDrive, FitDrop, FitFate, FitPlace, FitVhost, Is64}
 use Rattle.trace_words.specs.Places.{place_line}
-use Rattle.trace_words.specs.Reading.{◌>>=◌, ended, first_by, number_to}
+use Rattle.trace_words.specs.Reading.{◌>>=◌, ended, number_to}
 use Rattle.trace_words.specs.Said.{IsBare}
 use Rattle.trace_words.proofs.CauseWordLaws.{big_field, busy_field, drive_field, drop_field, err_field, fate_field, invalid_field, vhost_field}
 use Rattle.trace_words.proofs.Chains.{AreClean, IsClean, IsField, IsWritten, as_first, takes_end, takes_first, takes_part, word_again}

@@ -1,7 +1,5 @@
 -- The words of causes and fates.
-use Rattle.std.proofs.Common.{◌≡◌, Bool, true, false, List, ℕ, Some, refl}
-use Rattle.tap_frame.specs.declared.reading.BadFrame.{BadFrame}
-use Rattle.tap_frame.specs.declared.reading.BadFrame.TheVariants as bad
+use Rattle.std.proofs.Common.{◌≡◌, Bool, true, false, Some, refl}
 use Rattle.tap_ledger.specs.declared.side.Side.{Side}
 use Rattle.tap_ledger.specs.declared.side.Side.TheVariants as side
 use Rattle.tap_trace.specs.declared.causes.Busy.{Busy}
@@ -22,7 +20,7 @@ use Rattle.trace_words.specs.declared.cause_words.DropWord.{DropWord}
 use Rattle.trace_words.specs.declared.cause_words.DropWord.TheVariants as drop
 use Rattle.trace_words.specs.declared.cause_words.FateWord.{FateWord}
 use Rattle.trace_words.specs.declared.cause_words.FateWord.TheVariants as fate
-use Rattle.trace_words.specs.CauseWords.{bad_of, bad_spelling, bads, big_of, bigs, busy_of, busys, drive_spelling, drive_word, drive_words, drop_spelling, drop_word, drop_words, err_spelling, err_word, err_words, fate_spelling, fate_word, fate_words, flag_of, flag_spelling, flags, invalid_of, invalids, side_of, sides, vhost_spelling, vhost_word, vhost_words}
+use Rattle.trace_words.specs.CauseWords.{big_of, bigs, busy_of, busys, drive_spelling, drive_word, drive_words, drop_spelling, drop_word, drop_words, err_spelling, err_word, err_words, fate_spelling, fate_word, fate_words, flag_of, flag_spelling, flags, invalid_of, invalids, side_of, sides, vhost_spelling, vhost_word, vhost_words}
 use Rattle.trace_words.proofs.Chains.{IsField, words_field}
 
 err_again : (w : ErrWord) → err_word (err_spelling w) ≡ Some w

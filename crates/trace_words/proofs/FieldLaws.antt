@@ -1,5 +1,5 @@
 -- The single fields of a line: what is written for a value is read as this value, and what was read is written so.
-use Rattle.std.proofs.Common.{◌≡◌, ℕ, ◌^◌, ◌<◌, ◌≤◌, Bool, true, false, cond, eqb, not, List, [], ◌∷◌, ◌++◌, All, length, Option, Some, None, Ok, refl, ap, append_assoc, subst, sym, ◌∙◌, arith, rules}
+use Rattle.std.proofs.Common.{◌≡◌, ℕ, ◌^◌, ◌<◌, ◌≤◌, Bool, true, false, cond, eqb, not, List, [], ◌∷◌, ◌++◌, length, Option, Some, None, Ok, refl, ap, append_assoc, subst, sym, ◌∙◌, arith, rules}
 use Rattle.std.specs.Char.{is_ascii_digit}
 use Rattle.std.specs.Fmt.{decimal}
 use Rattle.std.specs.Int.{w16, w32}
@@ -35,7 +35,7 @@ use Rattle.trace_words.specs.CauseWords.{bad_of, bad_spelling, bads, flag_of, fl
 use Rattle.trace_words.specs.Fits.{FitBad, FitName, FitSomeName, Is16, Is32, Is64, IsOption16}
 use Rattle.trace_words.specs.LineReading.{format_of}
 use Rattle.trace_words.specs.Operations.{hex8, number_or_dash}
-use Rattle.trace_words.specs.Reading.{◌>>=◌, bytes_or_none, cut, harvested_of, name_of, name_or_dash_of, number_or_dash_of, number_to}
+use Rattle.trace_words.specs.Reading.{bytes_or_none, cut, harvested_of, name_of, name_or_dash_of, number_or_dash_of, number_to}
 use Rattle.trace_words.specs.Steps.{name_or_dash}
 use Rattle.trace_words.proofs.CauseWordLaws.{flag_field}
 use Rattle.trace_words.proofs.Chains.{IsClean, IsField, bind_some, found_word}
@@ -64,8 +64,8 @@ unfolding number_to
 numbers_to laws most small = record {
   again = λ n le. number_is (in_range 0 most (number_of (decimal n))) n (laws.read (Plain (shape.Number 0 most)) (value.Number n) (omega arith, le, omega arith));
   takes = λ field n e.
-    let w = laws.written (Plain (shape.Number 0 most)) field (value.Number n) (ap (λ (o : Option ℕ). or_fault fault.Number (option_map value.Number o)) e) in
-    (w.0.1, w.1, clean_of (decimal n) field w.1 (laws.made (Plain (shape.Number 0 most)) (value.Number n) w.0));
+      let w = laws.written (Plain (shape.Number 0 most)) field (value.Number n) (ap (λ (o : Option ℕ). or_fault fault.Number (option_map value.Number o)) e) in
+      (w.0.1, w.1, clean_of (decimal n) field w.1 (laws.made (Plain (shape.Number 0 most)) (value.Number n) w.0));
 }
 
 pub numbers8 : Laws → IsField (number_to 255) decimal (λ n. n < 256)
@@ -152,16 +152,16 @@ pub four_digits : Laws → IsField (hex_number_of w16) hex4 Is16
 four_digits laws = record {
   again = λ n h. digits_are (hex_number_of w16 (hex4 n)) n (laws.read (Plain (shape.HexNumber Four)) (value.Number n) h);
   takes = λ field n e.
-    let w = laws.written (Plain (shape.HexNumber Four)) field (value.Number n) (ap (λ (o : Option ℕ). or_fault fault.Hex (option_map value.Number o)) e) in
-    (w.0, w.1, clean_of (hex4 n) field w.1 (laws.made (Plain (shape.HexNumber Four)) (value.Number n) w.0));
+      let w = laws.written (Plain (shape.HexNumber Four)) field (value.Number n) (ap (λ (o : Option ℕ). or_fault fault.Hex (option_map value.Number o)) e) in
+      (w.0, w.1, clean_of (hex4 n) field w.1 (laws.made (Plain (shape.HexNumber Four)) (value.Number n) w.0));
 }
 
 pub eight_digits : Laws → IsField (hex_number_of w32) hex8 Is32
 eight_digits laws = record {
   again = λ n h. digits_are (hex_number_of w32 (hex8 n)) n (laws.read (Plain (shape.HexNumber Eight)) (value.Number n) h);
   takes = λ field n e.
-    let w = laws.written (Plain (shape.HexNumber Eight)) field (value.Number n) (ap (λ (o : Option ℕ). or_fault fault.Hex (option_map value.Number o)) e) in
-    (w.0, w.1, clean_of (hex8 n) field w.1 (laws.made (Plain (shape.HexNumber Eight)) (value.Number n) w.0));
+      let w = laws.written (Plain (shape.HexNumber Eight)) field (value.Number n) (ap (λ (o : Option ℕ). or_fault fault.Hex (option_map value.Number o)) e) in
+      (w.0, w.1, clean_of (hex8 n) field w.1 (laws.made (Plain (shape.HexNumber Eight)) (value.Number n) w.0));
 }
 
 bytes_are : (o : Option (List ℕ)) (bs : List ℕ) → or_fault fault.Hex (option_map value.Bytes o) ≡ Ok (value.Bytes bs) → o ≡ Some bs
@@ -172,8 +172,8 @@ pub some_bytes : Laws → IsField bytes_of encode_lower AreBytes
 some_bytes laws = record {
   again = λ bs h. bytes_are (bytes_of (encode_lower bs)) bs (laws.read (Plain shape.Hex) (value.Bytes bs) h);
   takes = λ field bs e.
-    let w = laws.written (Plain shape.Hex) field (value.Bytes bs) (ap (λ (o : Option (List ℕ)). or_fault fault.Hex (option_map value.Bytes o)) e) in
-    (w.0, w.1, clean_of (encode_lower bs) field w.1 (laws.made (Plain shape.Hex) (value.Bytes bs) w.0));
+      let w = laws.written (Plain shape.Hex) field (value.Bytes bs) (ap (λ (o : Option (List ℕ)). or_fault fault.Hex (option_map value.Bytes o)) e) in
+      (w.0, w.1, clean_of (encode_lower bs) field w.1 (laws.made (Plain shape.Hex) (value.Bytes bs) w.0));
 }
 
 abbrev pub AreSmall : List ℕ → Type 0
@@ -201,8 +201,8 @@ pub device_names : Laws → IsField names.name_of (λ name. name) (λ name. IsTr
 device_names laws = record {
   again = λ name h. name_is (names.name_of name) name (laws.read (Plain shape.Name) (value.Name name) h);
   takes = λ field name e.
-    let w = laws.written (Plain shape.Name) field (value.Name name) (ap (λ (o : Option (List ℕ)). or_fault fault.Number (option_map value.Name o)) e) in
-    (w.0, w.1, clean_of name field w.1 (laws.made (Plain shape.Name) (value.Name name) w.0));
+      let w = laws.written (Plain shape.Name) field (value.Name name) (ap (λ (o : Option (List ℕ)). or_fault fault.Number (option_map value.Name o)) e) in
+      (w.0, w.1, clean_of name field w.1 (laws.made (Plain shape.Name) (value.Name name) w.0));
 }
 
 formatted : (b : Bool) (field : List ℕ) (w : Unit {0}) → bytes_eq (codes "1") field ≡ b → cond b (Some tt) None ≡ Some w → (codes "1" ≡ field) × IsClean field
@@ -283,9 +283,9 @@ name_takes laws field n e =
     let t = (numbers32 laws).takes s1.0.0 s3.0 s3.1 in
     let p = (numbers16 laws).takes s1.0.1 s4.0 s4.1 in
     let behind : decimal s3.0 ++ 46 ∷ decimal s4.0 ≡ s0.0.1 =
-        ap (λ (x : List ℕ). x ++ 46 ∷ decimal s4.0) t.1 ∙ ap (λ (x : List ℕ). s1.0.0 ++ 46 ∷ x) p.1 ∙ cut_takes 46 s0.0.1 s1.0 s1.1 in
+    ap (λ (x : List ℕ). x ++ 46 ∷ decimal s4.0) t.1 ∙ ap (λ (x : List ℕ). s1.0.0 ++ 46 ∷ x) p.1 ∙ cut_takes 46 s0.0.1 s1.0 s1.1 in
     let whole : frame_name made ≡ field =
-        regrouped s2.0 s3.0 s4.0 ∙ ap (λ (x : List ℕ). x ++ (46 ∷ (decimal s3.0 ++ (46 ∷ decimal s4.0)))) a.1 ∙ ap (λ (x : List ℕ). s0.0.0 ++ 46 ∷ x) behind ∙ cut_takes 46 field s0.0 s0.1 in
+    regrouped s2.0 s3.0 s4.0 ∙ ap (λ (x : List ℕ). x ++ (46 ∷ (decimal s3.0 ++ (46 ∷ decimal s4.0)))) a.1 ∙ ap (λ (x : List ℕ). s0.0.0 ++ 46 ∷ x) behind ∙ cut_takes 46 field s0.0 s0.1 in
     let clean_behind : IsClean s0.0.1 = subst (λ (x : List ℕ). IsClean x) (cut_takes 46 s0.0.1 s1.0 s1.1) (joined_clean 46 s1.0.0 s1.0.1 refl t.2 p.2) in
     let clean_whole : IsClean field = subst (λ (x : List ℕ). IsClean x) (cut_takes 46 field s0.0 s0.1) (joined_clean 46 s0.0.0 s0.0.1 refl a.2 clean_behind) in
     subst (λ (m : Name). FitName m × (frame_name m ≡ field) × IsClean field) same ((a.0, t.0, p.0), whole, clean_whole)
@@ -316,7 +316,7 @@ chain_takes laws field x e =
     let a = (numbers32 laws).takes s0.0.0 s1.0 s1.1 in
     let b = (numbers32 laws).takes s0.0.1 s2.0 s2.1 in
     let whole : harvested made ≡ field =
-        ap (λ (y : List ℕ). y ++ 58 ∷ decimal s2.0) a.1 ∙ ap (λ (y : List ℕ). s0.0.0 ++ 58 ∷ y) b.1 ∙ cut_takes 58 field s0.0 s0.1 in
+    ap (λ (y : List ℕ). y ++ 58 ∷ decimal s2.0) a.1 ∙ ap (λ (y : List ℕ). s0.0.0 ++ 58 ∷ y) b.1 ∙ cut_takes 58 field s0.0 s0.1 in
     let clean_whole : IsClean field = subst (λ (y : List ℕ). IsClean y) (cut_takes 58 field s0.0 s0.1) (joined_clean 58 s0.0.0 s0.0.1 refl a.2 b.2) in
     subst (λ (m : ℕ × ℕ). FitHarvested m × (harvested m ≡ field) × IsClean field) same ((a.0, b.0), whole, clean_whole)
 

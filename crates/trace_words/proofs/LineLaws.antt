@@ -1,8 +1,7 @@
 -- All lines: what is written is read again, and what was read is written so; what follows of lines as bytes.
 use Rattle.std.proofs.Common.{◌≡◌, ℕ, Bool, true, false, eqb, not, List, [], ◌∷◌, ◌++◌, Option, Some, None, Result, Ok, Err, refl, ap, subst, sym, ◌∙◌, arith}
 use Rattle.std.specs.Prelude.{codes, IfOk}
-use Rattle.std.specs.Fmt.{decimal}
-use Rattle.std.specs.List.{list_all, slice_split}
+use Rattle.std.specs.List.{list_all}
 use Rattle.std.specs.Option.{IfSome, IfNone}
 use Rattle.std.proofs.lemmas.Bool.{and_parts, and_from}
 use Rattle.std.proofs.lemmas.List.Splits.{slice_split_at, slice_split_none}
@@ -28,8 +27,7 @@ use Rattle.trace_words.specs.Steps.{step_line}
 use Rattle.trace_words.specs.Words.{head_spelling}
 use Rattle.trace_words.proofs.AnswerLaws.{FitBareLine, answer_again, answer_takes}
 use Rattle.trace_words.proofs.CauseLaws.{place_again, place_takes}
-use Rattle.trace_words.proofs.Chains.{AreClean, IsClean, IsWritten, takes_end, takes_first, takes_part, word_again}
-use Rattle.trace_words.proofs.Cuts.{IsFree}
+use Rattle.trace_words.proofs.Chains.{AreClean, IsWritten, takes_end, takes_first, takes_part, word_again}
 use Rattle.trace_words.proofs.FieldLaws.{Laws, bad_cases, eight_digits, formats, frame_names, free_by_test, numbers16, numbers32, numbers64}
 use Rattle.trace_words.proofs.OpLaws.{Rules, op_again, op_takes}
 use Rattle.trace_words.proofs.StepLaws.{step_again, step_takes}

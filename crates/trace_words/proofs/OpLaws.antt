@@ -1,5 +1,5 @@
 -- The lines of operations: what is written is read again, and what was read is written so.
-use Rattle.std.proofs.Common.{◌≡◌, ℕ, lit<, ◌%◌, ◌^◌, ◌<◌, ◌≤◌, Bool, true, false, eqb, not, List, [], ◌∷◌, length, Option, Some, None, Result, Ok, Err, refl, ap, subst, sym, ◌∙◌, arith}
+use Rattle.std.proofs.Common.{◌≡◌, ℕ, ◌%◌, ◌^◌, ◌<◌, Bool, true, false, eqb, not, List, [], ◌∷◌, length, Option, Some, None, Result, Ok, Err, refl, ap, subst, sym, ◌∙◌, arith}
 use Rattle.std.specs.Prelude.{codes}
 use Rattle.std.specs.Fmt.{decimal}
 use Rattle.std.specs.List.{list_all}
@@ -15,7 +15,7 @@ use Rattle.text_fields.specs.Lines.{is_field, is_field_byte}
 use Rattle.scen_words.specs.declared.command.Command.{Command}
 use Rattle.scen_words.specs.declared.command.Command.TheVariants.{SetQueue, Close, Persist, HdrSize, Steer, Filter, Tick, Resize}
 use Rattle.scen_words.specs.declared.word.CommandWord.TheVariants as command
-use Rattle.scen_words.specs.Commands.{command_of, command_values, command_word}
+use Rattle.scen_words.specs.Commands.{command_of, command_values}
 use Rattle.scen_words.specs.Laws.{ValuesAreKept}
 use Rattle.scen_words.specs.Words.{command_form, command_spelling}
 use Rattle.trace_words.specs.declared.words.OpWord.{OpWord}
@@ -154,9 +154,10 @@ values_take rules w fields t (Ok vs) is e =
     let k = rules.written (command_form (table_word w)) fields vs is in
     let good = words_good rules w vs k.0 in
     let whole : op_fields (op.Words (command_of 0 (table_word w) vs)) ≡ command_spelling (table_word w) ∷ fields =
-        good.1 ∙ ap (λ (more : List (List ℕ)). command_spelling (table_word w) ∷ more) k.1 in
-    (subst (λ (x : OpText). IsWritten FitOp op_fields x (command_spelling (table_word w) ∷ fields)) same (good.0, whole),
-     subst (λ (xs : List (List ℕ)). AreClean xs) k.1 (fields_clean (fields_for (command_form (table_word w)) vs) (rules.made (command_form (table_word w)) vs k.0)))
+    good.1 ∙ ap (λ (more : List (List ℕ)). command_spelling (table_word w) ∷ more) k.1 in (
+      subst (λ (x : OpText). IsWritten FitOp op_fields x (command_spelling (table_word w) ∷ fields)) same (good.0, whole),
+      subst (λ (xs : List (List ℕ)). AreClean xs) k.1 (fields_clean (fields_for (command_form (table_word w)) vs) (rules.made (command_form (table_word w)) vs k.0)),
+    )
 
 words_take : Rules → (w : TableWord) (fields : List (List ℕ)) (t : OpText) → words_in w fields ≡ Some t → IsWritten FitOp op_fields t (op_spelling (word.Words w) ∷ fields) × AreClean fields
 unfolding words_in

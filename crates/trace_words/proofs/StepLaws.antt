@@ -9,11 +9,10 @@ use Rattle.trace_words.specs.declared.words.KindWord.{KindWord}
 use Rattle.trace_words.specs.declared.words.KindWord.TheVariants as word
 use Rattle.trace_words.specs.declared.words.PlainWord.{PlainWord}
 use Rattle.trace_words.specs.declared.words.PlainWord.TheVariants as plain
-use Rattle.trace_words.specs.Causes.{flag}
 use Rattle.trace_words.specs.Fits.{FitKind, FitStep, IsRing}
 use Rattle.trace_words.specs.Reading.{◌>>=◌, first_by}
 use Rattle.trace_words.specs.StepReading.{backend_in, copy_in, features_in, fetch_in, halt_in, kind_behind, notices_in, plain_in, plain_kind, publish_in, step_in}
-use Rattle.trace_words.specs.Steps.{kind_fields, name_or_dash, step_line}
+use Rattle.trace_words.specs.Steps.{kind_fields, step_line}
 use Rattle.trace_words.specs.Words.{kind_spelling, kind_word}
 use Rattle.trace_words.proofs.Chains.{AreClean, IsWritten, again_part, takes_end, takes_first, takes_part, word_again}
 use Rattle.trace_words.proofs.FieldLaws.{Laws, flags, names_or_dash, numbers16, numbers32, numbers8}

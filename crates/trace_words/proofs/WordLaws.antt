@@ -1,7 +1,6 @@
 -- A word is the field that it is spelled as.
-use Rattle.std.proofs.Common.{◌≡◌, Bool, true, false, List, ℕ, Some, refl}
+use Rattle.std.proofs.Common.{◌≡◌, Some, refl}
 use Rattle.trace_words.specs.declared.words.PlainWord.TheVariants as plain
-use Rattle.trace_words.specs.declared.words.TableWord.{TableWord}
 use Rattle.trace_words.specs.declared.words.TableWord.TheVariants as table
 use Rattle.trace_words.specs.declared.words.HeadWord.{HeadWord}
 use Rattle.trace_words.specs.declared.words.HeadWord.TheVariants as head

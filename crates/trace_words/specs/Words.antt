@@ -1,5 +1,5 @@
--- This project's own: the words of lines, steps, answers and operations, how each is spelled, and which word a field is.
-use Rattle.std.specs.Prelude.{ℕ, Bool, true, false, List, [], ◌∷◌, codes, Option, find}
+-- This project's own: the words of lines, steps, answers and operations: how each is spelled, and which a field is.
+use Rattle.std.specs.Prelude.{ℕ, List, [], ◌∷◌, codes, Option, find}
 use Rattle.std.specs.Str.{bytes_eq}
 use Rattle.trace_words.specs.declared.words.PlainWord.TheVariants as plain
 use Rattle.trace_words.specs.declared.words.TableWord.{TableWord}

@@ -6,8 +6,8 @@ ghost use Rattle.trace_words.specs.AnswerReading.{answer_behind, answer_in, bad_
 use crate::cause_reading::{derr, dropped, err, verr};
 use crate::cause_words::bad_of;
 use crate::fields::{
-    bytes, bytes_or_none, digits8, ended, first, harvested_of, name, number8, number16, number32,
-    number64, number_to,
+    bytes, bytes_or_none, digits8, ended, first, harvested_of, name, number_to, number8, number16,
+    number32, number64,
 };
 use crate::words::{AnswerWord, EndWord, answer_word, end_word};
 use sqlite_items::Items;

@@ -7,7 +7,7 @@ use crate::cause_words::{
     DriveWord, DropWord, ErrWord, FateWord, VhostWord, big_of, busy_of, drive_word, drop_word,
     err_word, fate_word, invalid_of, vhost_word,
 };
-use crate::fields::{ended, first, flag, name, number16, number32, number64, number_to};
+use crate::fields::{ended, first, flag, name, number_to, number16, number32, number64};
 use tap_trace::{Answer, Cause, DriveText, Fate, PlaceLine, TapText, VhostText};
 use text_fields::Fields;
 
@@ -275,11 +275,17 @@ fn drop_behind(word: DropWord, fields: Fields<'_>) -> Option<Answer>
     match word {
         DropWord::NoQueue => {
             ended(fields)?;
-            Some(Answer::Dropped { file: None, cause: Cause::NoQueue })
+            Some(Answer::Dropped {
+                file: None,
+                cause: Cause::NoQueue,
+            })
         }
         DropWord::Filtered => {
             ended(fields)?;
-            Some(Answer::Dropped { file: None, cause: Cause::Filtered })
+            Some(Answer::Dropped {
+                file: None,
+                cause: Cause::Filtered,
+            })
         }
         DropWord::Gone => gone(fields),
         DropWord::Full => full(fields),

@@ -139,22 +139,11 @@ const INVALIDS: [Invalid; 9] = [
     Invalid::Clock,
 ];
 
-const BUSYS: [Busy; 3] = [
-    Busy::Exclusive,
-    Busy::OneQueue,
-    Busy::Backed,
-];
+const BUSYS: [Busy; 3] = [Busy::Exclusive, Busy::OneQueue, Busy::Backed];
 
-const BIGS: [TooBig; 3] = [
-    TooBig::Queues,
-    TooBig::Epochs,
-    TooBig::Resizes,
-];
+const BIGS: [TooBig; 3] = [TooBig::Queues, TooBig::Epochs, TooBig::Resizes];
 
-const SIDES: [Side; 2] = [
-    Side::Rx,
-    Side::Tx,
-];
+const SIDES: [Side; 2] = [Side::Rx, Side::Tx];
 
 const BADS: [BadFrame; 6] = [
     BadFrame::ShortPi,
@@ -165,10 +154,7 @@ const BADS: [BadFrame; 6] = [
     BadFrame::TooLong,
 ];
 
-const FLAGS: [bool; 2] = [
-    true,
-    false,
-];
+const FLAGS: [bool; 2] = [true, false];
 
 fn err_spelling(word: ErrWord) -> &'static str
     ensures { result.now ≡ err_spelling word }
@@ -317,8 +303,7 @@ pub fn busy_of(field: &[u8]) -> Option<Busy>
 pub fn big_of(field: &[u8]) -> Option<TooBig>
     ensures { result ≡ big_of field.now }
 {
-    BIGS
-        .iter()
+    BIGS.iter()
         .copied()
         .find(|word| big_word(*word).as_bytes() == field)
 }
@@ -339,8 +324,7 @@ pub fn side_of(field: &[u8]) -> Option<Side>
 pub fn bad_of(field: &[u8]) -> Option<BadFrame>
     ensures { result ≡ bad_of field.now }
 {
-    BADS
-        .iter()
+    BADS.iter()
         .copied()
         .find(|word| bad_spelling(*word).as_bytes() == field)
 }

@@ -11,7 +11,9 @@ use crate::cause_words::flag_of;
 use sqlite_items::Items;
 use std::alloc::{AllocError, Global};
 use tap_trace::Name;
-use text_fields::{DeviceName, Digits, Fields, Kind, ReadError, Shape, Value, number_of, read_field, value_laws};
+use text_fields::{
+    DeviceName, Digits, Fields, Kind, ReadError, Shape, Value, number_of, read_field, value_laws,
+};
 
 /// The first field, and those behind it.
 pub fn first(mut fields: Fields<'_>) -> Option<(&[u8], Fields<'_>)>
@@ -116,7 +118,8 @@ fn place_of(field: &[u8], at: u8) -> Option<usize>
 
 // What stands before the first of these bytes, and what behind it.
 fn cut(field: &[u8], at: u8) -> Option<(&[u8], &[u8])>
-    ensures { MatchOption result (cut at field.now ≡ None) (λ parts. cut at field.now ≡ Some (parts.0.now, parts.1.now)) }
+    ensures { MatchOption result (cut at field.now ≡ None)
+        (λ parts. cut at field.now ≡ Some (parts.0.now, parts.1.now)) }
 {
     match place_of(field, at) {
         Some(place) => Some((&field[..place], &field[place + 1..])),
@@ -249,7 +252,10 @@ fn bytes_of(alloc: Global, field: &[u8]) -> Result<Option<Items<u8>>, AllocError
 }
 
 /// Bytes in hexadecimal digits, at least one.
-pub fn bytes(alloc: Global, fields: Fields<'_>) -> Result<Option<(Items<u8>, Fields<'_>)>, AllocError>
+pub fn bytes(
+    alloc: Global,
+    fields: Fields<'_>,
+) -> Result<Option<(Items<u8>, Fields<'_>)>, AllocError>
     ensures { IfOk result (λ o. o ≡ first_by bytes_of fields.entry) }
 {
     let Some((field, fields)) = first(fields) else {

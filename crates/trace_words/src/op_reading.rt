@@ -5,8 +5,8 @@ ghost use Rattle.trace_words.specs.LineReading.{back_in, learn_in, op_behind, op
 
 use crate::cause_words::side_of;
 use crate::fields::{
-    device, digits4, digits8, ended, file_number, first, number16, number32, number64,
-    number_or_dash,
+    device, digits4, digits8, ended, file_number, first, number_or_dash, number16, number32,
+    number64,
 };
 use crate::words::{OpWord, TableWord, op_word, table_word};
 use scen_words::meaning::command_of;
@@ -66,11 +66,7 @@ fn back(fields: Fields<'_>) -> Option<OpText>
 
 // A command's own words, as a scenario has them.
 #[tactic(auto, unfolding(crate::specs::LineReading::words_in))]
-fn words(
-    alloc: Global,
-    word: TableWord,
-    fields: Fields<'_>,
-) -> Result<Option<OpText>, AllocError>
+fn words(alloc: Global, word: TableWord, fields: Fields<'_>) -> Result<Option<OpText>, AllocError>
     ensures { IfOk result (λ o. o ≡ words_in word fields.entry) }
 {
     let word = table_word(word);
@@ -86,11 +82,7 @@ fn words(
 
 // What stands behind the word of an operation.
 #[tactic(auto, unfolding(crate::specs::LineReading::op_behind))]
-fn op_behind(
-    alloc: Global,
-    word: OpWord,
-    fields: Fields<'_>,
-) -> Result<Option<OpText>, AllocError>
+fn op_behind(alloc: Global, word: OpWord, fields: Fields<'_>) -> Result<Option<OpText>, AllocError>
     ensures { IfOk result (λ o. o ≡ op_behind word fields.entry) }
 {
     match word {

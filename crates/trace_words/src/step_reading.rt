@@ -64,11 +64,7 @@ fn halt(fields: Fields<'_>) -> Option<Kind>
     let (ring, fields) = number16(fields)?;
     let (fault, fields) = number8(fields)?;
     ended(fields)?;
-    Some(Kind::Halt {
-        vhost,
-        ring,
-        fault,
-    })
+    Some(Kind::Halt { vhost, ring, fault })
 }
 
 // V R POSITION NAME.
@@ -116,11 +112,7 @@ fn notices(fields: Fields<'_>) -> Option<Kind>
     let (ring, fields) = number16(fields)?;
     let (on, fields) = flag(fields)?;
     ended(fields)?;
-    Some(Kind::Notices {
-        vhost,
-        ring,
-        on,
-    })
+    Some(Kind::Notices { vhost, ring, on })
 }
 
 // V R B.
@@ -132,11 +124,7 @@ fn backend(fields: Fields<'_>) -> Option<Kind>
     let (ring, fields) = number16(fields)?;
     let (set, fields) = flag(fields)?;
     ended(fields)?;
-    Some(Kind::Backend {
-        vhost,
-        ring,
-        set,
-    })
+    Some(Kind::Backend { vhost, ring, set })
 }
 
 // V.
