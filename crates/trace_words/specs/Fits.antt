@@ -1,5 +1,5 @@
--- This project's own: which operations, answers, places and steps a text can stand for. Numbers are held to the types of
--- the fields.
+-- This project's own: which operations, answers, places and steps a text can stand for. Numbers are held to the types
+-- of the fields.
 use Rattle.std.specs.Prelude.{ℕ, ◌^◌, ◌<◌, Bool, true, false, IsTrue, [], ◌∷◌, Option, Some, None}
 use Rattle.std.specs.List.{AllByRecursion}
 use Rattle.tap_frame.specs.declared.name.Name.{Name}

@@ -8,7 +8,7 @@ use std::alloc::AllocError;
 use std::fmt::Write;
 use tap_trace::{Busy, DriveText, Invalid, TapText, TooBig, VhostText};
 
-fn invalid_word(why: Invalid) -> &'static str
+pub fn invalid_word(why: Invalid) -> &'static str
     ensures { result.now ≡ invalid_word why }
 {
     match why {
@@ -24,7 +24,7 @@ fn invalid_word(why: Invalid) -> &'static str
     }
 }
 
-fn busy_word(why: Busy) -> &'static str
+pub fn busy_word(why: Busy) -> &'static str
     ensures { result.now ≡ busy_word why }
 {
     match why {
@@ -34,7 +34,7 @@ fn busy_word(why: Busy) -> &'static str
     }
 }
 
-fn big_word(why: TooBig) -> &'static str
+pub fn big_word(why: TooBig) -> &'static str
     ensures { result.now ≡ big_word why }
 {
     match why {

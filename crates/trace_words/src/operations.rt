@@ -10,7 +10,7 @@ use std::alloc::AllocError;
 use std::fmt::Write;
 use tap_trace::{OpLine, OpText, Side};
 
-fn side_word(side: Side) -> &'static str
+pub fn side_word(side: Side) -> &'static str
     ensures { result.now ≡ side_word side }
 {
     match side {

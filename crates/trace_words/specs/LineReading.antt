@@ -1,0 +1,175 @@
+-- This project's own: what the fields of a line say.
+use Rattle.std.specs.Prelude.{ℕ, List, codes, if◌then◌else◌, Option, Some, None, Result, Ok, Err}
+use Rattle.std.specs.Str.{bytes_eq}
+use Rattle.tap_trace.specs.declared.trace.OpLine.{OpLine}
+use Rattle.tap_trace.specs.declared.trace.OpText.{OpText}
+use Rattle.tap_trace.specs.declared.trace.OpText.TheVariants as op
+use Rattle.tap_trace.specs.declared.turn.ChainText.TheVariants as chain
+use Rattle.text_fields.specs.declared.fault.FieldFault.{FieldFault}
+use Rattle.text_fields.specs.declared.value.Value.{Value}
+use Rattle.text_fields.specs.Forms.{values_of}
+use Rattle.text_fields.specs.Names as names
+use Rattle.scen_words.specs.Commands.{command_of}
+use Rattle.scen_words.specs.Words.{command_form}
+use Rattle.trace_words.specs.declared.said.Said.{Said}
+use Rattle.trace_words.specs.declared.said.Said.TheVariants as said
+use Rattle.trace_words.specs.declared.words.HeadWord.{HeadWord}
+use Rattle.trace_words.specs.declared.words.HeadWord.TheVariants as head
+use Rattle.trace_words.specs.declared.words.OpWord.{OpWord}
+use Rattle.trace_words.specs.declared.words.OpWord.TheVariants as word
+use Rattle.trace_words.specs.declared.words.TableWord.{TableWord}
+use Rattle.trace_words.specs.AnswerReading.{answer_in}
+use Rattle.trace_words.specs.CauseReading.{place_in}
+use Rattle.trace_words.specs.CauseWords.{bad_of, side_of}
+use Rattle.trace_words.specs.Reading.{◌>>=◌, digits4, digits8, ended, first_by, name_first, number16, number32, number64, number_or_dash_of, number_to}
+use Rattle.trace_words.specs.StepReading.{step_in}
+use Rattle.trace_words.specs.Words.{head_word, op_word, table_word}
+
+-- ---- operations
+
+unfoldable pub setiff_in : List (List ℕ) → Option OpText
+setiff_in fields = do
+  file ← first_by (number_to 319) fields
+  name ← first_by names.name_of file.1
+  flags ← digits4 name.1
+  end ← ended flags.1
+  Some (op.SetIff file.0 name.0 flags.0)
+
+unfoldable pub learn_in : List (List ℕ) → Option OpText
+learn_in fields = do
+  file ← number16 fields
+  hash ← digits8 file.1
+  end ← ended hash.1
+  Some (op.Learn file.0 hash.0)
+
+unfoldable pub back_in : List (List ℕ) → Option OpText
+back_in fields = do
+  file ← number16 fields
+  side ← first_by side_of file.1
+  vhost ← first_by number_or_dash_of side.1
+  end ← ended vhost.1
+  Some (op.Back file.0 side.0 vhost.0)
+
+-- a command's own words, as a scenario has them
+abbrev pub words_from : TableWord → Result (List Value) FieldFault → Option OpText
+words_from w (Ok values) = Some (op.Words (command_of 0 (table_word w) values))
+words_from w (Err why) = None
+
+unfoldable pub words_in : TableWord → List (List ℕ) → Option OpText
+words_in w fields = words_from w (values_of (command_form (table_word w)) fields)
+
+unfoldable pub op_behind : OpWord → List (List ℕ) → Option OpText
+op_behind word.SetIff fields = setiff_in fields
+op_behind word.Learn fields = learn_in fields
+op_behind word.Back fields = back_in fields
+op_behind (word.Words w) fields = words_in w fields
+
+-- `op VERSION COMMAND TEXT`
+unfoldable pub op_in : List (List ℕ) → Option OpLine
+op_in fields = do
+  version ← number64 fields
+  command ← number32 version.1
+  w ← first_by op_word command.1
+  text ← op_behind w.0 w.1
+  Some (record { version = version.0; command = command.0; text = text })
+
+-- ---- lines of a few fields
+
+-- the version of the format
+unfoldable pub format_of : List ℕ → Option (Unit {0})
+format_of field = if bytes_eq (codes "1") field then Some tt else None
+
+unfoldable pub begins_in : List (List ℕ) → Option Said
+begins_in fields = do
+  one ← first_by format_of fields
+  end ← ended one.1
+  Some said.Begins
+
+unfoldable pub phase_in : List (List ℕ) → Option Said
+phase_in fields = do
+  number ← number64 fields
+  actors ← number16 number.1
+  end ← ended actors.1
+  Some (said.Phase number.0 actors.0)
+
+unfoldable pub resize_in : List (List ℕ) → Option Said
+resize_in fields = do
+  claimed ← number64 fields
+  freed ← number64 claimed.1
+  cut ← number64 freed.1
+  end ← ended cut.1
+  Some (said.Resize claimed.0 freed.0 cut.0)
+
+unfoldable pub got_in : List (List ℕ) → Option Said
+got_in fields = do
+  name ← name_first fields
+  len ← number32 name.1
+  fnv ← digits8 len.1
+  end ← ended fnv.1
+  Some (said.Chain (chain.Got name.0 len.0 fnv.0))
+
+unfoldable pub refused_in : List (List ℕ) → Option Said
+refused_in fields = do
+  position ← number16 fields
+  bad ← first_by bad_of position.1
+  end ← ended bad.1
+  Some (said.Chain (chain.Refused position.0 bad.0))
+
+unfoldable pub file_in : List (List ℕ) → Option Said
+file_in fields = do
+  file ← number16 fields
+  claimed ← number64 file.1
+  freed ← number64 claimed.1
+  end ← ended freed.1
+  Some (said.File file.0 claimed.0 freed.0)
+
+unfoldable pub guest_in : List (List ℕ) → Option Said
+guest_in fields = do
+  guest ← number16 fields
+  end ← ended guest.1
+  Some (said.Guest guest.0)
+
+unfoldable pub ring_in : List (List ℕ) → Option Said
+ring_in fields = do
+  vhost ← number16 fields
+  ring ← number16 vhost.1
+  end ← ended ring.1
+  Some (said.Ring vhost.0 ring.0)
+
+unfoldable pub list_in : List (List ℕ) → Option Said
+list_in fields = do
+  base ← number16 fields
+  end ← ended base.1
+  Some (said.Base base.0)
+
+unfoldable pub used_in : List (List ℕ) → Option Said
+used_in fields = do
+  position ← number16 fields
+  head ← number16 position.1
+  len ← number32 head.1
+  end ← ended len.1
+  Some (said.Used position.0 head.0 len.0)
+
+-- ---- all lines
+
+-- what the fields behind the first word of a line say
+unfoldable pub said_behind : HeadWord → List (List ℕ) → Option Said
+said_behind head.Begins fields = begins_in fields
+said_behind head.Phase fields = phase_in fields
+said_behind head.Op fields = op_in fields >>= λ o. Some (said.Op o)
+said_behind head.Answer fields = answer_in fields >>= λ a. Some (said.Answer a)
+said_behind head.Resize fields = resize_in fields
+said_behind head.Got fields = got_in fields
+said_behind head.Refused fields = refused_in fields
+said_behind head.File fields = file_in fields
+said_behind head.Place fields = place_in fields >>= λ l. Some (said.Place l)
+said_behind head.Guest fields = guest_in fields
+said_behind head.Step fields = step_in fields >>= λ s. Some (said.Step s)
+said_behind head.Ring fields = ring_in fields
+said_behind head.Base fields = list_in fields
+said_behind head.Used fields = used_in fields
+said_behind head.End fields = ended fields >>= λ end. Some said.End
+
+-- what the fields of a line say
+unfoldable pub said_in : List (List ℕ) → Option Said
+said_in fields = first_by head_word fields >>= λ w. said_behind w.0 w.1

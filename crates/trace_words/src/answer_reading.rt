@@ -1,0 +1,295 @@
+//! The lines of answers, read.
+
+ghost use Rattle.std.specs.Prelude.{◌≡◌, IfOk};
+ghost use Rattle.trace_words.specs.AnswerReading.{answer_behind, answer_in, bad_in, base_in, chains_of, done_in, end_behind, fault_in, harvested_in, host_in, peeked_in, placed_in, posted_in, read_in, short_in, stopped_in, turn_in};
+
+use crate::cause_reading::{derr, dropped, err, verr};
+use crate::cause_words::bad_of;
+use crate::fields::{
+    bytes, bytes_or_none, digits8, ended, first, harvested_of, name, number_to, number8, number16,
+    number32, number64,
+};
+use crate::words::{AnswerWord, EndWord, answer_word, end_word};
+use sqlite_items::Items;
+use std::alloc::{AllocError, Global};
+use tap_trace::{Answer, AnswerLine, TurnText};
+use text_fields::Fields;
+
+// Behind `ok`: nothing, or a version.
+#[tactic(auto, unfolding(crate::specs::AnswerReading::done_in))]
+fn done(fields: Fields<'_>) -> Option<Answer>
+    ensures { result ≡ done_in fields.entry }
+{
+    let Some((field, fields)) = first(fields) else {
+        return Some(Answer::Done);
+    };
+    let version = number_to(u64::MAX, field)?;
+    ended(fields)?;
+    Some(Answer::Version(version))
+}
+
+// LEN FNV.
+#[tactic(auto, unfolding(crate::specs::AnswerReading::host_in))]
+fn host(alloc: Global, fields: Fields<'_>) -> Result<Option<Answer>, AllocError>
+    ensures { IfOk result (λ o. o ≡ host_in fields.entry) }
+{
+    let Some((len, fields)) = number32(fields) else {
+        return Ok(None);
+    };
+    let Some((fnv, fields)) = digits8(alloc, fields)? else {
+        return Ok(None);
+    };
+    if ended(fields).is_none() {
+        return Ok(None);
+    }
+    Ok(Some(Answer::Host { len, fnv }))
+}
+
+// N.
+#[tactic(auto, unfolding(crate::specs::AnswerReading::base_in))]
+fn base(fields: Fields<'_>) -> Option<Answer>
+    ensures { result ≡ base_in fields.entry }
+{
+    let (position, fields) = number16(fields)?;
+    ended(fields)?;
+    Some(Answer::Base(position))
+}
+
+// HEX.
+#[tactic(auto, unfolding(crate::specs::AnswerReading::peeked_in))]
+fn peeked(alloc: Global, fields: Fields<'_>) -> Result<Option<Answer>, AllocError>
+    ensures { IfOk result (λ o. o ≡ peeked_in fields.entry) }
+{
+    let Some((bytes, fields)) = bytes(alloc, fields)? else {
+        return Ok(None);
+    };
+    if ended(fields).is_none() {
+        return Ok(None);
+    }
+    Ok(Some(Answer::Peeked(bytes)))
+}
+
+// HEAD.
+#[tactic(auto, unfolding(crate::specs::AnswerReading::posted_in))]
+fn posted(fields: Fields<'_>) -> Option<Answer>
+    ensures { result ≡ posted_in fields.entry }
+{
+    let (head, fields) = number16(fields)?;
+    ended(fields)?;
+    Some(Answer::Posted(head))
+}
+
+// The chains that came back, one a field.
+fn chains(alloc: Global, fields: Fields<'_>) -> Result<Option<Items<(u32, u32)>>, AllocError>
+    ensures { IfOk result (λ o. o ≡ chains_of fields.entry) }
+{
+    let mut left = fields;
+    let mut chains = Items::new(alloc);
+    while let Some(field) = left.next() {
+        let Some(chain) = harvested_of(field) else {
+            return Ok(None);
+        };
+        chains.push(chain)?;
+    }
+    Ok(Some(chains))
+}
+
+// ID:LEN ..
+#[tactic(auto, unfolding(crate::specs::AnswerReading::harvested_in))]
+fn harvested(alloc: Global, fields: Fields<'_>) -> Result<Option<Answer>, AllocError>
+    ensures { IfOk result (λ o. o ≡ harvested_in fields.entry) }
+{
+    match chains(alloc, fields)? {
+        Some(chains) => Ok(Some(Answer::Harvested(chains))),
+        None => Ok(None),
+    }
+}
+
+// ADDR.
+#[tactic(auto, unfolding(crate::specs::AnswerReading::fault_in))]
+fn fault(fields: Fields<'_>) -> Option<Answer>
+    ensures { result ≡ fault_in fields.entry }
+{
+    let (addr, fields) = number64(fields)?;
+    ended(fields)?;
+    Some(Answer::Fault { addr })
+}
+
+// NEED HAD.
+#[tactic(auto, unfolding(crate::specs::AnswerReading::short_in))]
+fn short(fields: Fields<'_>) -> Option<TurnText>
+    ensures { result ≡ short_in fields.entry }
+{
+    let (need, fields) = number32(fields)?;
+    let (had, fields) = number64(fields)?;
+    ended(fields)?;
+    Some(TurnText::Short { need, had })
+}
+
+// Nothing.
+#[tactic(auto, unfolding(crate::specs::AnswerReading::answer_behind))]
+fn no_driver(fields: Fields<'_>) -> Option<Answer>
+    ensures { result ≡ answer_behind AnswerWord.NoDriver fields.entry }
+{
+    ended(fields)?;
+    Some(Answer::NoDriver)
+}
+
+// N.
+#[tactic(auto, unfolding(crate::specs::AnswerReading::stopped_in))]
+fn stopped(fields: Fields<'_>) -> Option<TurnText>
+    ensures { result ≡ stopped_in fields.entry }
+{
+    let (fault, fields) = number8(fields)?;
+    ended(fields)?;
+    Some(TurnText::Stopped(fault))
+}
+
+// What stands behind the word for how a turn ended.
+#[tactic(auto, unfolding(crate::specs::AnswerReading::end_behind))]
+fn end_behind(word: EndWord, fields: Fields<'_>) -> Option<TurnText>
+    ensures { result ≡ end_behind word fields.entry }
+{
+    match word {
+        EndWord::Idle => {
+            ended(fields)?;
+            Some(TurnText::Idle)
+        }
+        EndWord::Short => short(fields),
+        EndWord::Again => {
+            ended(fields)?;
+            Some(TurnText::Again)
+        }
+        EndWord::Stopped => stopped(fields),
+        EndWord::Off => {
+            ended(fields)?;
+            Some(TurnText::Off)
+        }
+    }
+}
+
+// PACKETS BYTES END.
+#[tactic(auto, unfolding(crate::specs::AnswerReading::turn_in))]
+fn turn(alloc: Global, fields: Fields<'_>) -> Option<Answer>
+    ensures { result ≡ turn_in fields.entry }
+{
+    let (packets, fields) = number32(fields)?;
+    let (bytes, fields) = number64(fields)?;
+    let (word, fields) = first(fields)?;
+    let end = end_behind(end_word(word)?, fields)?;
+    Some(Answer::Turn {
+        packets,
+        bytes,
+        end,
+        chains: Items::new(alloc),
+    })
+}
+
+// N.
+#[tactic(auto, unfolding(crate::specs::AnswerReading::bad_in))]
+fn bad(fields: Fields<'_>) -> Option<Answer>
+    ensures { result ≡ bad_in fields.entry }
+{
+    let (field, fields) = first(fields)?;
+    let bad = bad_of(field)?;
+    ended(fields)?;
+    Some(Answer::Bad(bad))
+}
+
+// F PLACE EPOCH LEN.
+#[tactic(auto, unfolding(crate::specs::AnswerReading::placed_in))]
+fn placed(fields: Fields<'_>) -> Option<Answer>
+    ensures { result ≡ placed_in fields.entry }
+{
+    let (file, fields) = number16(fields)?;
+    let (place, fields) = number64(fields)?;
+    let (epoch, fields) = number16(fields)?;
+    let (len, fields) = number32(fields)?;
+    ended(fields)?;
+    Some(Answer::Placed {
+        file,
+        place,
+        epoch,
+        len,
+    })
+}
+
+// NAME PLACE HEX.
+#[tactic(auto, unfolding(crate::specs::AnswerReading::read_in))]
+fn read(alloc: Global, fields: Fields<'_>) -> Result<Option<Answer>, AllocError>
+    ensures { IfOk result (λ o. o ≡ read_in fields.entry) }
+{
+    let Some((name, fields)) = name(fields) else {
+        return Ok(None);
+    };
+    let Some((place, fields)) = number64(fields) else {
+        return Ok(None);
+    };
+    let Some((bytes, fields)) = bytes_or_none(alloc, fields)? else {
+        return Ok(None);
+    };
+    if ended(fields).is_none() {
+        return Ok(None);
+    }
+    Ok(Some(Answer::Read { name, place, bytes }))
+}
+
+// What stands behind the word of an answer.
+#[tactic(auto, unfolding(crate::specs::AnswerReading::answer_behind))]
+fn answer_behind(
+    alloc: Global,
+    word: AnswerWord,
+    fields: Fields<'_>,
+) -> Result<Option<Answer>, AllocError>
+    ensures { IfOk result (λ o. o ≡ answer_behind word fields.entry) }
+{
+    match word {
+        AnswerWord::Done => Ok(done(fields)),
+        AnswerWord::Host => host(alloc, fields),
+        AnswerWord::Base => Ok(base(fields)),
+        AnswerWord::Peeked => peeked(alloc, fields),
+        AnswerWord::Posted => Ok(posted(fields)),
+        AnswerWord::Harvested => harvested(alloc, fields),
+        AnswerWord::NoDriver => Ok(no_driver(fields)),
+        AnswerWord::Fault => Ok(fault(fields)),
+        AnswerWord::Turn => Ok(turn(alloc, fields)),
+        AnswerWord::Bad => Ok(bad(fields)),
+        AnswerWord::Placed => Ok(placed(fields)),
+        AnswerWord::Dropped => Ok(dropped(fields)),
+        AnswerWord::Read => read(alloc, fields),
+        AnswerWord::Refused => Ok(err(fields)),
+        AnswerWord::Vhost => Ok(verr(fields)),
+        AnswerWord::Drive => Ok(derr(fields)),
+    }
+}
+
+/// What stands behind `ans`.
+#[tactic(auto, unfolding(crate::specs::AnswerReading::answer_in))]
+pub fn answer(alloc: Global, fields: Fields<'_>) -> Result<Option<AnswerLine>, AllocError>
+    ensures { IfOk result (λ o. o ≡ answer_in fields.entry) }
+{
+    let Some((actor, fields)) = number16(fields) else {
+        return Ok(None);
+    };
+    let Some((command, fields)) = number32(fields) else {
+        return Ok(None);
+    };
+    let Some((seen, fields)) = number64(fields) else {
+        return Ok(None);
+    };
+    let Some((word, fields)) = first(fields) else {
+        return Ok(None);
+    };
+    let Some(word) = answer_word(word) else {
+        return Ok(None);
+    };
+    match answer_behind(alloc, word, fields)? {
+        Some(answer) => Ok(Some(AnswerLine {
+            actor,
+            command,
+            seen,
+            answer,
+        })),
+        None => Ok(None),
+    }
+}

@@ -1,0 +1,15 @@
+//! What lines have to do with what they say.
+
+ghost use Rattle.trace_words.specs.Laws.{LinesAreText, LinesHaveNoEnd, LinesSayOneThing};
+
+/// A line says one thing at most; a line that says something has the bytes of a line, and no LF.
+pub fn said_laws()
+    ensures one { LinesSayOneThing }
+    ensures text { LinesAreText }
+    ensures no_end { LinesHaveNoEnd }
+{
+    text_fields::line_laws();
+    text_fields::value_laws();
+    text_fields::form_laws();
+    scen_words::command_laws();
+}
