@@ -44,8 +44,8 @@ EpochsNeverFall claims =
     (c d : Claim) → Contains claims c → Contains claims d → c.place ≤ d.place → c.epoch ≤ d.epoch
 
 -- What was lifted and what is left are the frames of all places, in order; each place is one producer's claim, once,
--- with the frame that it put, under the epoch that the keeper's reopenings gave the place. The capacities that the
--- producers loaded are those that the keeper gave. No place was given out since the keeper shut the gate, if it is shut.
+-- with the frame that it put, under the epoch that the keeper's reopenings gave the place. Each capacity that a
+-- producer loaded is the ring's of its number of resizes. Where the gate is shut, no place was given out since.
 pub record IsEnd (plan : Plan) (all : List Token) (c k : View) (claimed freed lifted : ℕ) (left : List FrameValue)
     : Type 0 where
   pub lifted_is : lifted ≡ plan.first + length c.lifted

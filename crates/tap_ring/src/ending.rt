@@ -139,8 +139,8 @@ impl TapRing {
     /// Ends the ring, with all its producers. What the consumer lifted and what is left are the
     /// frames of all places that were claimed, in order, and each place is one producer's claim. Along
     /// the places epochs never fall: each claim's is the number of the keeper's reopenings up to its
-    /// place. The capacities that the producers loaded are those that the keeper gave. Of a gate that is
-    /// shut the claim count is the one that the keeper knows.
+    /// place. Each capacity that a producer loaded is the one of its number of resizes: the ring's first,
+    /// or what the keeper gave. Of a gate that is shut the claim count is the one that the keeper knows.
     pub fn finish(self, all: Vec<Producer>, c: Consumer, k: Keeper) -> Ended
         requires producers { AllOfRing self.ring all.items × (length all.items ≡ self.plan.producers) }
         requires consumer { c.ring ≡ self.ring }
