@@ -1,10 +1,10 @@
 #!/bin/sh
 # Times the trace and the report of a run: `tapsim plain`, as text and as JSON, on 20,000 and on 200,000 commands of one
 # file (frames of 60 bytes, a read for every send, up to 500 frames waiting in a ring of 1,024), and beside each
-# `tapsim check` on the same scenario, so that what is left is the run, its trace and its report. It prints the processor
-# time, the megabytes of output a second and the peak memory; then 200,000 against 20,000 (at most 12 times), and what is
-# left against sha256sum of the output. It times the program itself, which bin/tapsim builds first where that is needed.
-# It needs GNU time as /usr/bin/time.
+# `tapsim check` on the same scenario, so that what is left is the run, its trace and its report. It prints the
+# processor time, the megabytes of output a second and the peak memory; then 200,000 against 20,000 (at most 12 times),
+# and what is left against sha256sum of the output. It times the program itself, which bin/tapsim builds first where
+# that is needed. It needs GNU time as /usr/bin/time.
 set -eu
 top=$(CDPATH= cd -- "$(dirname -- "$0")/.." && pwd)
 program=$top/crates/tapsim/out/tapsim
@@ -40,7 +40,8 @@ measure() {
     done | sort -n | head -1 >"$scratch/$name.$last"
     awk -v name="$name $*" -v size="$(wc -c <"$scratch/$name.out")" '{
         seconds = $1 > 0 ? $1 : 0.001
-        printf "%s: %.3f s, %.1f MB/s, output %.1f MB, peak %.1f MiB\n", name, $1, size / 1e6 / seconds, size / 1e6, $2 / 1024
+        printf "%s: %.3f s, %.1f MB/s, output %.1f MB, peak %.1f MiB\n",
+            name, $1, size / 1e6 / seconds, size / 1e6, $2 / 1024
     }' "$scratch/$name.$last"
 }
 
@@ -58,6 +59,7 @@ for run in 1 2 3; do
     awk '{ print $1 + $2 }' "$scratch/run"
 done | sort -n | head -1 >"$scratch/sum"
 awk 'FNR == 1 { t[++n] = $1 > 0 ? $1 : 0.001 }
-    END { printf "many/small: text %.1f times, JSON %.1f times (at most 12); run, trace and report/sha256sum: %.1f times\n",
+    END { printf "many/small: text %.1f times, JSON %.1f times (at most 12); many less check/sha256sum: %.1f times\n",
         t[2] / t[1], t[4] / t[3], (t[2] - t[5]) / t[6] }' \
-    "$scratch/small.plain" "$scratch/many.plain" "$scratch/small.--json" "$scratch/many.--json" "$scratch/many.check" "$scratch/sum"
+    "$scratch/small.plain" "$scratch/many.plain" "$scratch/small.--json" "$scratch/many.--json" \
+    "$scratch/many.check" "$scratch/sum"

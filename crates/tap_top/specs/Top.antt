@@ -22,8 +22,8 @@ use Rattle.tap_words.specs.declared.request.Request.TheVariants.{Check, Plain, L
 
 -- ---- the words
 
--- What is asked for is built: a check, an upgrade, the generator and a run on one thread; not a run on many threads, nor
--- the judge.
+-- What is asked for is built: a check, an upgrade, the generator and a run on one thread; not a run on many threads,
+-- nor the judge.
 abbrev pub is_built : Request → Bool
 is_built Check = true
 is_built (Plain seed json) = true

@@ -1,7 +1,7 @@
 //! Runs the top call on words and inputs, one after another, and prints its statuses and what it wrote.
 //!
-//! Each row of `runs.txt` has the words, the calls of source and sink that fail, and the input. The input that is longer
-//! than any scenario, and what may follow a trace, stand here.
+//! Each row of `runs.txt` has the words, the calls of source and sink that fail, and the input. The input that is
+//! longer than any scenario, and what may follow a trace, stand here.
 #![tactic(auto)]
 
 use anyhow::{Context, Result};
