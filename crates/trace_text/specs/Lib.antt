@@ -1,4 +1,7 @@
 pub mod BadLine
+pub mod Building
+pub mod Input
 pub mod Ordered
 pub mod Parts
+pub mod Reading
 pub mod TraceText

@@ -1,5 +1,5 @@
 -- This project's own: which traces a text can stand for: each part fits, and the parts are in the order of the form.
-use Rattle.std.specs.Prelude.{◌≡◌, ℕ, Bool, true, ◌&&◌, ◌||◌, ◌==◌, nat_lt, IsTrue, List, [], ◌∷◌, Option, Some, None}
+use Rattle.std.specs.Prelude.{◌≡◌, ℕ, Bool, true, ◌&&◌, ◌||◌, ◌==◌, nat_lt, IsTrue, List, [], ◌∷◌}
 use Rattle.std.specs.List.{AllByRecursion}
 use Rattle.tap_trace.specs.declared.trace.AnswerLine.{AnswerLine}
 use Rattle.tap_trace.specs.declared.trace.FilePart.{FilePart}
@@ -9,7 +9,6 @@ use Rattle.tap_trace.specs.declared.trace.PhasePart.{PhasePart}
 use Rattle.tap_trace.specs.declared.trace.PlaceLine.{PlaceLine}
 use Rattle.tap_trace.specs.declared.trace.PositionList.{PositionList}
 use Rattle.tap_trace.specs.declared.trace.RingPart.{RingPart}
-use Rattle.tap_trace.specs.declared.trace.StepLine.{StepLine}
 use Rattle.tap_trace.specs.declared.trace.Trace.{Trace}
 use Rattle.trace_words.specs.Fits.{FitAnswerLine, FitOpLine, FitPlace, FitStep, FitUsed, Is16, Is64, IsRing}
 use Rattle.trace_text.specs.TraceText.{trace_text}

@@ -1,5 +1,5 @@
 use Rattle.std.proofs.Common.{refl}
-use Rattle.trace_text.specs.Parts.{place_line}
+use Rattle.trace_words.specs.Places.{place_line}
 use Rattle.trace_text.proofs.Loops.{text_more}
 use Rattle.trace_text.proofs.printing.put_places.Goals as goal
 

@@ -1,6 +1,6 @@
 use Rattle.std.proofs.Common.{◌≡◌, ◌++◌, take, map, string_bytes}
 use Rattle.scen_words.specs.Field.{text}
-use Rattle.trace_text.specs.Parts.{place_line}
+use Rattle.trace_words.specs.Places.{place_line}
 use Rattle.trace_text.proofs.printing.put_places.Given as goal
 
 abbrev pub invariant-loop-place : goal.invariant-loop-place
