@@ -1,9 +1,9 @@
-//! The texts of traces.
+//! The texts of traces, written and read.
 //!
 //! `specs/TraceText.antt` has the text of a trace, which is lines made of fields, and `specs/Parts.antt` its parts; the
-//! lines themselves are those of `trace_words`. `specs/Ordered.antt` says which traces have a text, `specs/BadLine.antt`
-//! which line of other bytes is the first bad one, and which parts an input has. A trace is read line by line: what a
-//! line adds to the trace so far stands in `specs/Building.antt`.
+//! lines themselves are those of `trace_words`. `specs/Ordered.antt` says which traces have a text, and
+//! `specs/BadLine.antt` which line of other bytes is the first bad one, and which parts an input has. A trace is read
+//! line by line: `specs/Building.antt` has what a line adds to the trace so far, which `builder` keeps.
 #![tactic(auto)]
 
 mod builder;
