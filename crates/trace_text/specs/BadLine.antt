@@ -27,8 +27,8 @@ abbrev pub Begins : List (List ℕ) → Type 0
 Begins lines =
     (t : Trace) × FitTrace t × (more : List (List ℕ)) × (map line_of (trace_lines t) ≡ lines ++ more)
 
--- line n, counted from 1, is the first bad one: some text begins with the lines before it, which have their LF; and it
--- lacks its LF, or isn't there, or no text begins with the lines up to it
+-- the line behind so many is the first bad one: some text begins with the lines before it, which have their LF; and it
+-- lacks its LF, or isn't there, or no text begins with the lines up to it. A whole trace meets it behind its last line.
 pub record IsFirstBad (bytes : List ℕ) (before : ℕ) : Type 0 where
   pub there : before ≤ length (ended_lines bytes)
   pub good : Begins (take before (ended_lines bytes))

@@ -30,7 +30,7 @@ fn format_of(field: &[u8]) -> Option<()>
     }
 }
 
-// The version of the format.
+// The line that a trace begins with, behind its word.
 #[tactic(auto, unfolding(crate::specs::LineReading::begins_in))]
 fn begins(fields: Fields<'_>) -> Option<Said>
     ensures { result ≡ begins_in fields.entry }
