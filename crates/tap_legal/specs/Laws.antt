@@ -24,11 +24,11 @@ UpgradeHasSameTraces = (s : Scenario) (t : Trace) → IsLegal s t ↔ IsLegal (r
 abbrev pub NoneFails : Case → Replays → Type 0
 NoneFails c rs =
     (a_fails c rs ≡ []) × (b_fails c ≡ []) × (c_fails c ≡ []) × (d_fails c ≡ []) × (e_fails c ≡ [])
-    × (f_fails c rs ≡ []) × (g_fails c rs ≡ []) × (h_fails c rs ≡ [])
+    × (f_fails c ≡ []) × (g_fails c rs ≡ []) × (h_fails c rs ≡ [])
 
--- A trace is legal where no sentence of any clause fails.
+-- A trace is legal exactly where no sentence of any clause fails.
 abbrev pub LegalWhereNoneFails : Type 0
-LegalWhereNoneFails = (s : Scenario) (t : Trace) → NoneFails (case_of s t) (replays (case_of s t)) → IsLegal s t
+LegalWhereNoneFails = (s : Scenario) (t : Trace) → IsLegal s t ↔ NoneFails (case_of s t) (replays (case_of s t))
 
 -- the trace of the worked run is legal
 abbrev pub WorkedIsLegal : Type 0

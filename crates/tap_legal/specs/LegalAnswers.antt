@@ -21,8 +21,7 @@ use Rattle.tap_world.specs.Setup.{frame_of}
 use Rattle.tap_legal.specs.Numbered.{AnswerAt, Asked, EntryAt, OpAt, PhaseAt, same_told}
 use Rattle.tap_legal.specs.Same.{is_bad, same_refusal}
 use Rattle.tap_legal.specs.Case.{Case, fails_as, fails_each, fails_missing, fails_order, of_answer}
-use Rattle.tap_legal.specs.Lookups.{entry_named, is_below_own, newest_before, newest_of, ops_of, seen_before, some_version, table_at}
-use Rattle.tap_legal.specs.LegalTable.{is_learning}
+use Rattle.tap_legal.specs.Lookups.{entry_named, is_below_own, is_learning, newest_before, newest_of, ops_of, seen_before, some_version, table_at}
 
 -- ---- the commands
 

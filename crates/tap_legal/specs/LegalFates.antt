@@ -1,6 +1,7 @@
 -- This project's own, clause h of a legal trace: each accepted frame has one fate, and no other name stands in the
 -- trace.
 use Rattle.std.specs.Prelude.{ℕ, ◌+◌, ◌==◌, ◌&&◌, ◌||◌, not, nat_lt, if◌then◌else◌, Bool, true, false, List, [], ◌∷◌, ◌++◌, length, filter, flat_map, is_none, Option, Some, None}
+use Rattle.std.specs.List.{list_all}
 use Rattle.std.specs.Option.{option_map_or}
 use Rattle.tap_frame.specs.declared.name.Name.{Name}
 use Rattle.scen_words.specs.declared.command.Command.{Command}
@@ -13,7 +14,8 @@ use Rattle.tap_ledger.specs.declared.fate.Fate.TheVariants as fate
 use Rattle.tap_ledger.specs.declared.fate.Cause.TheVariants as cause
 use Rattle.tap_legal.specs.Numbered.{AnswerAt, Asked, EntryAt, FileAt, StepAt, Told}
 use Rattle.tap_legal.specs.Replay.{Packet}
-use Rattle.tap_legal.specs.Replays.{Replays, are_of_one, is_whole, packets_of}
+use Rattle.tap_legal.specs.Replays.{Replays, is_whole, packets_of}
+use Rattle.tap_legal.specs.Served.{serves}
 use Rattle.tap_legal.specs.Case.{Case, fails_each, of_answer, of_entry, of_file, of_step}
 use Rattle.tap_legal.specs.Lookups.{asked_at, same_name}
 use Rattle.tap_legal.specs.Takes.{copied, copies_of, has_guest, readers, was_read}
@@ -66,10 +68,14 @@ copies_sent c s = option_map_or (is_sent c) (copied s.at.kind) true
 
 -- ---- reads and copies
 
--- Each `guest` entry has one copy, and each `read` entry one `read`.
+-- Each `guest` entry has one copy, in a receive turn on its file, and each `read` entry one `read`.
+abbrev pub is_on_its_file : Case → EntryAt → StepAt → Bool
+is_on_its_file c e s = serves c e.file s.at.command
+
 abbrev pub is_taken_once : Case → EntryAt → Bool
 is_taken_once c e =
-    (not (has_guest e.at.fate) || length (copies_of c e.at.name) == 1)
+    (not (has_guest e.at.fate)
+    || length (copies_of c e.at.name) == 1 && list_all (is_on_its_file c e) (copies_of c e.at.name))
     && (not (was_read e.at.fate) || length (readers c e) == 1)
 
 -- ---- packets
@@ -103,11 +109,10 @@ packet_entries c file = filter (λ (e : EntryAt). e.file == file && is_packet e.
 
 -- Packets of all receive turns on a file are its `guest` and `overrun` entries.
 abbrev pub has_packets : Case → Replays → FileAt → Bool
-has_packets c rs f = length (packet_entries c f.part.file) == length (packets_of f.part.file rs)
+has_packets c rs f = length (packet_entries c f.part.file) == length (packets_of c f.part.file rs)
 
 abbrev pub file_packets_fail : Case → Replays → FileAt → List ℕ
-file_packets_fail c rs f =
-    if are_of_one f.part.file rs then packets_fail (packet_entries c f.part.file) (packets_of f.part.file rs) else []
+file_packets_fail c rs f = packets_fail (packet_entries c f.part.file) (packets_of c f.part.file rs)
 
 -- ---- the clause
 

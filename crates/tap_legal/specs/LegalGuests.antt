@@ -1,5 +1,5 @@
 -- This project's own, clause g of a legal trace: the steps on the guests, and what they answer.
-use Rattle.std.specs.Prelude.{ℕ, ◌+◌, ◌==◌, ◌&&◌, ◌||◌, not, nat_lt, if◌then◌else◌, Bool, true, List, [], ◌∷◌, ◌++◌, length, flat_map, Option, Some, None, option_map}
+use Rattle.std.specs.Prelude.{ℕ, ◌+◌, ◌==◌, ◌&&◌, ◌||◌, not, nat_lt, if◌then◌else◌, Bool, true, List, [], ◌∷◌, ◌++◌, length, flat_map, Option, Some, None}
 use Rattle.std.specs.List.{list_any}
 use Rattle.std.specs.Option.{option_map_or}
 use Rattle.guest_mem.specs.declared.region.Region.{Region}
@@ -14,12 +14,14 @@ use Rattle.tap_trace.specs.declared.trace.RingPart.{RingPart}
 use Rattle.tap_world.specs.ByNumber.{at, numbered}
 use Rattle.tap_world.specs.Guests.{Vhost, is_ring}
 use Rattle.tap_world.specs.Project.{ring_parts}
-use Rattle.tap_legal.specs.Numbered.{AnswerAt, Asked, EntryAt, GuestAt, RingAt, StepAt, Told}
+use Rattle.tap_legal.specs.Numbered.{AnswerAt, Asked, EntryAt, GuestAt, RingAt, StepAt}
 use Rattle.tap_legal.specs.Codes.{same_answer}
 use Rattle.tap_legal.specs.Case.{Case, fails_as, fails_each, fails_missing, fails_order, of_answer, of_step}
-use Rattle.tap_legal.specs.Lookups.{asked_at, is_before}
+use Rattle.tap_legal.specs.Lookups.{is_before}
 use Rattle.tap_legal.specs.Replay.{Replay, vhost_named}
-use Rattle.tap_legal.specs.Replays.{Replays, files_of, is_whole}
+use Rattle.tap_legal.specs.Replays.{Replays, headers_of, is_whole}
+use Rattle.tap_legal.specs.Served.{serves}
+use Rattle.tap_legal.specs.Takes.{told_of_step}
 
 -- ---- guests and steps
 
@@ -28,13 +30,10 @@ abbrev pub is_guest : ℕ × List Region → GuestAt → Bool
 is_guest g l = l.guest == g.0
 
 -- One actor's steps follow its commands, and steps of a phase come before those of later ones.
-abbrev pub told_of : Case → StepAt → Option Told
-told_of c s = option_map (λ (a : Asked). a.told) (asked_at c s.at.command)
-
 abbrev pub steps_follow : Case → StepAt → StepAt → Bool
 steps_follow c s t =
     not (s.guest == t.guest)
-    || option_map_or (λ a. option_map_or (λ b. not (is_before b a)) (told_of c t) true) (told_of c s) true
+    || option_map_or (λ a. option_map_or (λ b. not (is_before b a)) (told_of_step c t) true) (told_of_step c s) true
 
 -- Each command that has steps has all of them. The ring of a command that has none isn't there, which is its answer.
 abbrev pub ring_named : Command → Option ℕ
@@ -66,13 +65,14 @@ answers_no_ring a =
     option_map_or (λ k. has_steps k || same_answer a.answer (answer.Vhost ENOBUFS)) a.asked true
 
 -- NEED of a Short is above HAD, and is the header size plus the length of an entry of the turn's file.
-abbrev pub is_need : ℕ → ℕ → EntryAt → Bool
-is_need file need e = e.file == file && (e.at.len + 10 == need || e.at.len + 12 == need)
+abbrev pub is_need : Case → ℕ → ℕ → ℕ → EntryAt → Bool
+is_need c command need header e = serves c e.file command && header + e.at.len == need
 
 abbrev pub fits_short : Case → Replays → ℕ → Answer → Bool
 fits_short c rs command (answer.Turn packets bytes (text.Short need had) chains) =
     nat_lt had need
-    && (not (is_whole rs) || list_any (λ file. list_any (is_need file need) c.entries) (files_of command rs))
+    && (not (is_whole rs) || list_any (λ header. list_any (is_need c command need header) c.entries)
+    (headers_of command rs))
 fits_short c rs command other = true
 
 -- ---- rings

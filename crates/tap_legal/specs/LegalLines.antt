@@ -13,7 +13,7 @@ use Rattle.tap_world.specs.ByNumber.{numbered}
 use Rattle.tap_world.specs.Setup.{Declared}
 use Rattle.tap_legal.specs.Numbered.{AnswerAt, Asked, EntryAt, FileAt, StepAt, Told}
 use Rattle.tap_legal.specs.Case.{Case, fails_as, fails_each, fails_order, of_answer, of_entry, of_file, of_step}
-use Rattle.tap_legal.specs.Lookups.{answer_of, claimed_of, declared, ending_of, entry_at, entry_named, freed_of, is_before, put_in, same_name, table_at, taken_from, told_of_name}
+use Rattle.tap_legal.specs.Lookups.{answer_of, claimed_of, declared, ending_of, entry_at, entry_named, freed_of, is_before, part_of, put_in, same_name, table_at, taken_from, told_of_name}
 use Rattle.tap_legal.specs.Takes.{Resized, copied, cuts_of, resizes_of, told_of_step, waits, was_cut, was_purged, was_read}
 
 -- ---- files and entries
@@ -33,7 +33,7 @@ stands_as c t (answer.Placed file place epoch len) =
     option_map_or (is_entry_of t epoch len) (entry_at c file place) false
 stands_as c t other = true
 
--- Each entry is one `placed`, at the place that follows the entry before it.
+-- Each entry is one `placed`, and entry i has place first + i.
 abbrev pub is_placed : Case → EntryAt → Bool
 is_placed c e =
     e.at.name.part == 0
@@ -42,11 +42,12 @@ is_placed c e =
     (put_in e.file a) false)
     (answer_of c e.at.name.turn) false
 
-abbrev pub is_next_place : EntryAt → EntryAt → Bool
-is_next_place d e = not (d.file == e.file) || e.at.place + d.line == d.at.place + e.line
+abbrev pub is_in_place : EntryAt → Declared → FileAt → Bool
+is_in_place e d f = e.at.place + (f.line + 1) == d.first + e.line
 
-abbrev pub is_from_first : Case → EntryAt → Bool
-is_from_first c e = option_map_or (λ (d : Declared). nat_le d.first e.at.place) (declared c e.file) true
+abbrev pub has_its_place : Case → EntryAt → Bool
+has_its_place c e =
+    option_map_or (λ d. option_map_or (is_in_place e d) (part_of c e.file) true) (declared c e.file) true
 
 -- Places rise with one actor's commands.
 abbrev pub rises : (AnswerAt → Option ℕ) → AnswerAt → AnswerAt → Bool
@@ -169,7 +170,7 @@ c_fails c =
     fails_as c.end is_file of_file (numbered 0 c.setup.files) c.files
     ++ fails_each of_answer (λ a. stands_as c a.told a.answer) c.answers
     ++ fails_each of_entry (is_placed c) c.entries
-    ++ fails_order of_entry is_next_place c.entries ++ fails_each of_entry (is_from_first c) c.entries
+    ++ fails_each of_entry (has_its_place c) c.entries
     ++ flat_map (λ file. fails_order of_answer (rises (put_in file)) c.answers) (file_numbers c)
     ++ fails_order of_entry epochs_rise c.entries ++ fails_order of_entry waiting_last c.entries
     ++ fails_each of_file (has_numbers c) c.files

@@ -8,10 +8,10 @@ use Rattle.tap_trace.specs.declared.answer.Answer.{Answer}
 use Rattle.tap_trace.specs.declared.answer.Answer.TheVariants as answer
 use Rattle.tap_trace.specs.declared.turn.TurnText.TheVariants as text
 use Rattle.tap_world.specs.Setup.{Declared}
-use Rattle.tap_legal.specs.Replays.{Replays, files_of}
 use Rattle.tap_legal.specs.Numbered.{AnswerAt, EntryAt, Told}
 use Rattle.tap_legal.specs.Case.{Case, fails_each, of_answer}
 use Rattle.tap_legal.specs.Lookups.{claimed_of, declared, entry_at, is_before, told_of_name}
+use Rattle.tap_legal.specs.Served.{served_by}
 use Rattle.tap_legal.specs.Takes.{is_taken_after, waits}
 
 -- The place is from first to CLAIMED, and wasn't placed before this command.
@@ -46,12 +46,12 @@ places_of c file =
 abbrev pub found_none : Case → Told → ℕ → Bool
 found_none c t file = list_any (is_not_ready c t file) (places_of c file)
 
-abbrev pub fits_idle : Case → Replays → Told → Option Command → Answer → Bool
-fits_idle c rs t (Some (command.RxTurn vhost)) (answer.Turn packets bytes text.Idle chains) =
-    not (list_any (λ file. not (found_none c t file)) (files_of t.command rs))
-fits_idle c rs t asked other = true
+abbrev pub fits_idle : Case → Told → Option Command → Answer → Bool
+fits_idle c t (Some (command.RxTurn vhost)) (answer.Turn packets bytes text.Idle chains) =
+    option_map_or (found_none c t) (served_by c t.command) true
+fits_idle c t asked other = true
 
-abbrev pub f_fails : Case → Replays → List ℕ
-f_fails c rs =
+abbrev pub f_fails : Case → List ℕ
+f_fails c =
     fails_each of_answer (λ a. fits_again c a a.asked a.answer) c.answers
-    ++ fails_each of_answer (λ a. fits_idle c rs a.told a.asked a.answer) c.answers
+    ++ fails_each of_answer (λ a. fits_idle c a.told a.asked a.answer) c.answers

@@ -15,20 +15,19 @@ use Rattle.scen_words.specs.declared.command.Command.TheVariants as command
 use Rattle.tap_trace.specs.declared.answer.Answer.{Answer}
 use Rattle.tap_trace.specs.declared.answer.Answer.TheVariants as answer
 use Rattle.tap_trace.specs.declared.causes.TapText.{TapText}
+use Rattle.tap_trace.specs.declared.causes.VhostText.TheVariants as text
 use Rattle.tap_world.specs.Causes.{tap_text}
 use Rattle.tap_world.specs.Frames.{Front, bad_in, ether_in}
 use Rattle.tap_world.specs.Setup.{op_of}
+use Rattle.tap_world.specs.StepBackend.{back_refusal}
 use Rattle.tap_legal.specs.Numbered.{AnswerAt, Asked, OpAt}
 use Rattle.tap_legal.specs.Same.{same_op, same_refusal}
 use Rattle.tap_legal.specs.Case.{Case, fails_each, fails_order, of_answer, of_op}
-use Rattle.tap_legal.specs.Replays.{Replays, files_of, flows_of, was_replayed}
-use Rattle.tap_legal.specs.Lookups.{answer_of, asked_at, ops_of, seen_before, some_version, table_at}
+use Rattle.tap_legal.specs.Replays.{Replays, flows_of, was_replayed}
+use Rattle.tap_legal.specs.Lookups.{answer_of, asked_at, is_learning, ops_of, own_ops, seen_before, some_version, table_at}
+use Rattle.tap_legal.specs.Served.{served_by}
 
 -- ---- operations
-
-abbrev pub is_learning : Option Op → Bool
-is_learning (Some (op.Learn file hash)) = true
-is_learning other = false
 
 -- No version is left out.
 abbrev pub fails_versions : ℕ → List OpAt → List ℕ
@@ -71,9 +70,6 @@ version_in (answer.Version version) = Some version
 version_in (answer.Resized version claimed freed cut) = Some version
 version_in other = None
 
-abbrev pub own_ops : Case → ℕ → List OpAt
-own_ops c n = filter (λ (o : OpAt). not (is_learning o.op)) (ops_of c n)
-
 -- Each `ok VERSION` is one operation of that command,
 abbrev pub is_published : Case → AnswerAt → Bool
 is_published c a =
@@ -103,6 +99,14 @@ answers_op c a x other = false
 abbrev pub is_table_answer : Case → AnswerAt → Bool
 is_table_answer c a =
     option_map_or (λ x. answers_op c a x a.answer) (option_map_or (op_of c.setup) a.asked None) true
+
+-- For `backend` the ring's own refusals come first, then the table's at SEEN, then that of the header's size.
+abbrev pub answers_back : Case → AnswerAt → Option Command → Answer → Bool
+answers_back c a (Some (command.Backend vhost ring file)) (answer.Tap e) =
+    option_map_or (λ r. same_refusal r e) (back_refusal (table_at c a.seen) vhost ring file) false
+answers_back c a (Some (command.Backend vhost ring file)) (answer.Vhost (text.EHDR want have)) =
+    is_none (back_refusal (table_at c a.seen) vhost ring file)
+answers_back c a asked other = true
 
 -- ---- learnings
 
@@ -170,8 +174,7 @@ may_learn_on c a frames learnt file =
 abbrev pub turn_learns : Case → Replays → AnswerAt → Bool
 turn_learns c rs a =
     let frames : ℕ = length (flows_of a.told.command rs) in
-    not (list_any (λ file. not (may_learn_on c a frames (length (learnt_by c a.told.command)) file))
-    (files_of a.told.command rs))
+    option_map_or (may_learn_on c a frames (length (learnt_by c a.told.command))) (served_by c a.told.command) true
 
 abbrev pub turn_fails : Case → Replays → AnswerAt → Option Command → List ℕ
 turn_fails c rs a (Some (command.TxTurn vhost)) =
@@ -191,6 +194,7 @@ a_fails c rs =
     ++ fails_each of_answer (is_published c) c.answers
     ++ fails_each of_op (is_answered c) c.ops
     ++ fails_each of_answer (is_table_answer c) c.answers
+    ++ fails_each of_answer (λ a. answers_back c a a.asked a.answer) c.answers
     ++ fails_each of_op (is_of_frame c) c.ops
     ++ fails_order of_op (is_other_frame c) c.ops
     ++ fails_each of_answer (λ a. may_learn c a a.asked) c.answers

@@ -2,6 +2,7 @@ pub mod Numbered
 pub mod Same
 pub mod Case
 pub mod Lookups
+pub mod Served
 pub mod Takes
 pub mod Codes
 pub mod Replay

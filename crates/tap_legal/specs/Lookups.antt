@@ -1,5 +1,7 @@
 -- This project's own: the look-ups in a trace. Nothing else reads its lines a second time.
-use Rattle.std.specs.Prelude.{ℕ, zero, suc, ◌+◌, ◌-◌, ◌==◌, ◌&&◌, ◌||◌, not, nat_lt, nat_le, max, if◌then◌else◌, Bool, false, List, [], ◌∷◌, filter, find, slice_get, slice_index_or, option_map, Option, Some, None}
+use Rattle.std.specs.Prelude.{ℕ, zero, suc, ◌+◌, ◌-◌, ◌==◌, ◌&&◌, ◌||◌, not, nat_lt, nat_le, max, if◌then◌else◌, Bool, false, List, [], ◌∷◌, filter, find, slice_get, slice_index_or, option_map, Option, Some, None, min, length, option_and_then, true}
+use Rattle.tap_steer.specs.declared.operation.Op.{Op}
+use Rattle.tap_steer.specs.declared.operation.Op.TheVariants as op
 use Rattle.std.specs.List.{list_any}
 use Rattle.std.specs.Option.{option_map_or}
 use Rattle.tap_frame.specs.declared.name.Name.{Name}
@@ -12,7 +14,7 @@ use Rattle.tap_world.specs.Then.{only_if}
 use Rattle.tap_world.specs.ByNumber.{at}
 use Rattle.tap_world.specs.Setup.{Declared, opening_table}
 use Rattle.tap_world.specs.StepTable.{is_enabled}
-use Rattle.tap_legal.specs.Numbered.{AnswerAt, Asked, EntryAt, FileAt, OpAt, Told}
+use Rattle.tap_legal.specs.Numbered.{AnswerAt, Asked, EntryAt, FileAt, OpAt, Told, same_told}
 use Rattle.tap_legal.specs.Case.{Case}
 
 -- ---- which command is before which
@@ -34,12 +36,10 @@ asked_at c number = slice_get c.asked number
 abbrev pub told_of_name : Case → Name → Option Told
 told_of_name c n = option_map (λ (a : Asked). a.told) (asked_at c n.turn)
 
--- the answer of a command
-abbrev pub is_answer_of : Told → AnswerAt → Bool
-is_answer_of t a = a.told.phase == t.phase && a.told.actor == t.actor && a.told.command == t.command
-
+-- the answer of a command: that of its own actor in its own phase
 abbrev pub answer_of : Case → ℕ → Option AnswerAt
-answer_of c number = find (λ (a : AnswerAt). a.told.command == number) c.answers
+answer_of c number =
+    option_and_then (λ (a : Asked). find (λ (x : AnswerAt). same_told x.told a.told) c.answers) (asked_at c number)
 
 -- ---- versions and tables
 
@@ -51,9 +51,17 @@ op_at c version = find (λ (o : OpAt). o.at.version == version) c.ops
 abbrev pub ops_of : Case → ℕ → List OpAt
 ops_of c command = filter (λ (o : OpAt). o.at.command == command) c.ops
 
--- the table at a version
+-- an operation, the command's own and no learning
+abbrev pub is_learning : Option Op → Bool
+is_learning (Some (op.Learn file hash)) = true
+is_learning other = false
+
+abbrev pub own_ops : Case → ℕ → List OpAt
+own_ops c n = filter (λ (o : OpAt). not (is_learning o.op)) (ops_of c n)
+
+-- the table at a version: after as many operations, of which there may be fewer
 abbrev pub table_at : Case → ℕ → Table
-table_at c version = slice_index_or c.tables version (opening_table c.setup)
+table_at c version = slice_index_or c.tables (min version (length c.ops)) (opening_table c.setup)
 
 -- the greatest version of operations that pass a test
 abbrev pub greatest : (OpAt → Bool) → List OpAt → ℕ

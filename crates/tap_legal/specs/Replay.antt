@@ -1,7 +1,7 @@
 -- This project's own, of clause g of a legal trace: the steps on a guest as one fold, from zeros, the first settings
 -- and no drivers. A turn is replayed by the steps of its worker; which frames it had in hand is read off the file's
 -- line.
-use Rattle.std.specs.Prelude.{ℕ, zero, suc, ◌-◌, ◌^◌, ◌==◌, if◌then◌else◌, Bool, true, false, List, [], ◌∷◌, ◌++◌, length, map, filter, Option, Some, None, is_none}
+use Rattle.std.specs.Prelude.{ℕ, zero, suc, ◌-◌, ◌^◌, ◌==◌, ◌&&◌, if◌then◌else◌, Bool, true, false, List, [], ◌∷◌, ◌++◌, length, map, filter, Option, Some, None, is_none}
 use Rattle.std.specs.Option.{option_map_or}
 use Rattle.guest_mem.specs.Memory.{Contents, first_bad}
 use Rattle.tap_frame.specs.declared.name.Name.{Name}
@@ -25,16 +25,15 @@ use Rattle.tap_trace.specs.declared.turn.ChainText.{ChainText}
 use Rattle.tap_trace.specs.declared.turn.TurnText.TheVariants as text
 use Rattle.tap_world.specs.Then.{◌>>=◌, only_if}
 use Rattle.tap_world.specs.ByNumber.{at, with_at}
-use Rattle.tap_world.specs.Guests.{Vhost, turn_of}
+use Rattle.tap_world.specs.Guests.{Vhost, is_ring, turn_of}
 use Rattle.tap_world.specs.Setup.{frame_of}
 use Rattle.tap_world.specs.World.{name_of}
 use Rattle.tap_world.specs.StepBackend.{back_answer, back_refusal, unfit_for}
-use Rattle.tap_world.specs.StepControl.{call_of, may_call, peeked, poke_leaves, poke_told, vhost_of}
-use Rattle.tap_world.specs.StepControl.{Call}
-use Rattle.tap_legal.specs.Numbered.{AnswerAt, StepAt}
+use Rattle.tap_world.specs.StepControl.{Call, call_of, may_call, peeked, poke_leaves, poke_told, vhost_of}
+use Rattle.tap_legal.specs.Numbered.{AnswerAt, OpAt, StepAt}
 use Rattle.tap_legal.specs.Codes.{same_answer, same_kind}
 use Rattle.tap_legal.specs.Case.{Case}
-use Rattle.tap_legal.specs.Lookups.{answer_of, entry_named, table_at}
+use Rattle.tap_legal.specs.Lookups.{answer_of, entry_named, own_ops, table_at}
 
 -- ---- the state of a replay
 
@@ -46,7 +45,6 @@ pub data Turning : Type 0 where
 pub record Under : Type 0 where
   pub vhost : ℕ
   pub command : ℕ
-  pub file : ℕ
   pub turning : Turning
 
 -- a frame that a transmit turn accepted: the turn's command, and the hash of the frame's flow
@@ -54,24 +52,29 @@ pub record Accepted : Type 0 where
   pub command : ℕ
   pub flow : ℕ
 
--- a packet of a receive turn on a file: the frame that was copied, or an overrun with the header's size, the chains
--- that it might have, and the bytes that they held
+-- a packet of a receive turn: the turn's command, and the frame that was copied, or an overrun with the header's size,
+-- the chains that it might have, and the bytes that they held
 pub record Packet : Type 0 where
-  pub file : ℕ
+  pub command : ℕ
   pub name : Option Name
   pub header : ℕ
   pub quota : ℕ
   pub had : ℕ
 
--- the memory, the vhosts, the turns under way, the packets, the frames that were accepted, the turns with their files,
--- the commands that are done, and the lines that fail; after a step that can't be, no more is replayed
+-- a turn that found a backend: its command, and the size of the vhost's header
+pub record Begun : Type 0 where
+  pub command : ℕ
+  pub header : ℕ
+
+-- the memory, the vhosts, the turns under way, the packets, the frames that were accepted, the turns that began, the
+-- commands that are done, and the lines that fail; after a step that can't be, no more is replayed
 pub record Replay : Type 0 where
   pub memory : Contents
   pub vhosts : List (Option Vhost)
   pub under : List Under
   pub packets : List Packet
   pub accepted : List Accepted
-  pub files : List (ℕ × ℕ)
+  pub turns : List Begun
   pub finished : List ℕ
   pub fails : List ℕ
   pub broken : Bool
@@ -113,22 +116,29 @@ replay_call c s k r = do
   x ← call_of k v r.memory
   if may_call s.at.command k v then Some (called_as c s vhost r x) else None
 
-abbrev pub replay_bytes : Case → StepAt → Command → Replay → Option Replay
-replay_bytes c s (command.Poke guest addr bytes) r =
+-- a poke or a peek of this guest
+abbrev pub poked : Case → StepAt → ℕ → List ℕ → Replay → Replay
+poked c s addr bytes r =
     let bad : Option ℕ = first_bad r.memory.regions addr (length bytes) in
-    Some (if_step s (Some kind.Poke) r
-    (answers c s.at.command (poke_told bad) (record r { memory = poke_leaves r.memory addr bytes bad })))
-replay_bytes c s (command.Peek guest addr len) r =
-    Some (if_step s (Some kind.Peek) r
-    (answers c s.at.command (peeked addr len r.memory (first_bad r.memory.regions addr len)) r))
+    if_step s (Some kind.Poke) r
+    (answers c s.at.command (poke_told bad) (record r { memory = poke_leaves r.memory addr bytes bad }))
+
+abbrev pub peeked_at : Case → StepAt → ℕ → ℕ → Replay → Replay
+peeked_at c s addr len r =
+    if_step s (Some kind.Peek) r
+    (answers c s.at.command (peeked addr len r.memory (first_bad r.memory.regions addr len)) r)
+
+abbrev pub replay_bytes : Case → StepAt → Command → Replay → Option Replay
+replay_bytes c s (command.Poke guest addr bytes) r = only_if (guest == s.guest) (poked c s addr bytes r)
+replay_bytes c s (command.Peek guest addr len) r = only_if (guest == s.guest) (peeked_at c s addr len r)
 replay_bytes c s other r = None
 
 -- ---- a backend
 
--- the table that a backend is judged by: that at SEEN, or before its own operation
-abbrev pub version_for : AnswerAt → Answer → ℕ
-version_for a (answer.Version version) = version - 1
-version_for a other = a.seen
+-- the version of the table that a backend is judged by: SEEN, or the one before the operation that it published
+abbrev pub version_for : AnswerAt → List OpAt → ℕ
+version_for a [] = a.seen
+version_for a (o ∷ os) = o.at.version - 1
 
 abbrev pub back_wanted : Case → ℕ → ℕ → Option ℕ → Vhost → Contents → Table → Option Answer
 back_wanted c vhost ring None v m t = if is_none (ring_at ring v.settings).file then Some answer.Done else None
@@ -140,23 +150,22 @@ abbrev pub back_made : ℕ → Option ℕ → Contents → Vhost → Vhost
 back_made ring None m v = record v { settings = without_backend ring v.settings }
 back_made ring (Some file) m v = record v { settings = with_backend ring file m v.settings }
 
+-- B is 1 exactly where the answer is `ok VERSION`; the answer is looked at also where B is wrong
 abbrev pub backed_as : Case → StepAt → ℕ → ℕ → Option ℕ → Vhost → Option Answer → Replay → Replay
 backed_as c s vhost ring file v (Some x) r =
-    if_step s (Some (kind.Backend vhost ring false)) r (answers c s.at.command x r)
+    let told : Replay = answers c s.at.command x r in if_step s (Some (kind.Backend vhost ring false)) told told
 backed_as c s vhost ring file v None r =
-    if_step s (Some (kind.Backend vhost ring true)) r
-    (answers c s.at.command (answer.Version 0)
-    (record r { vhosts = with_at vhost (back_made ring file r.memory v) r.vhosts }))
+    let told : Replay = answers c s.at.command (answer.Version 0) r in
+    if_step s (Some (kind.Backend vhost ring true)) told
+    (record told { vhosts = with_at vhost (back_made ring file r.memory v) r.vhosts })
 
 abbrev pub replay_back : Case → StepAt → Command → Replay → Option Replay
 replay_back c s (command.Backend vhost ring file) r = do
   v ← at r.vhosts vhost
   a ← answer_of c s.at.command
-  if is_none (turn_of ring v)
-      then Some
+  only_if (is_ring ring && is_none (turn_of ring v))
       (backed_as c s vhost ring file v
-      (back_wanted c vhost ring file v r.memory (table_at c (version_for a a.answer))) r)
-      else None
+      (back_wanted c vhost ring file v r.memory (table_at c (version_for a (own_ops c s.at.command)))) r)
 replay_back c s other r = None
 
 -- ---- what a receive turn had in hand, read off the steps that come
@@ -211,8 +220,9 @@ length_told c command t =
     option_map_or (λ need. need - t.header)
     (option_map_or (λ (a : AnswerAt). short_of t.packets a.answer) (answer_of c command) None) (2 ^ 32)
 
+-- a name that wasn't sent has no frame, so its copy is a step that can't be
 abbrev pub hand_of : Case → ℕ → RxTurn → Coming → Hand
-hand_of c command t (Copies name) = option_map_or (λ f. hand.Got f) (frame_named c name) hand.Off
+hand_of c command t (Copies name) = hand.Got (option_map_or (λ f. f) (frame_named c name) (frame_of_length (2 ^ 32)))
 hand_of c command t StaysOrRunsOver = hand.Got (frame_of_length (length_told c command t))
 hand_of c command t NoFrame = hand.NotReady 0
 

@@ -32,7 +32,7 @@ use Rattle.tap_world.specs.StepTransmits.{chains_after, tx_over, tx_state}
 use Rattle.tap_legal.specs.Numbered.{AnswerAt, Asked, StepAt}
 use Rattle.tap_legal.specs.Case.{Case}
 use Rattle.tap_legal.specs.Lookups.{answer_of, asked_at}
-use Rattle.tap_legal.specs.Replay.{Accepted, Packet, Replay, Turning, Under, ahead, answers, broken_at, hand_for, if_step, replay_back, replay_bytes, replay_call}
+use Rattle.tap_legal.specs.Replay.{Accepted, Begun, Packet, Replay, Turning, Under, ahead, answers, broken_at, hand_for, if_step, replay_back, replay_bytes, replay_call}
 use Rattle.tap_legal.specs.Replay.Turning.{Receiving, Sending}
 
 -- ---- turns under way
@@ -99,14 +99,14 @@ tx_left c ss u chains v r made =
 -- the packet that is over as its frame leaves the worker's hand
 abbrev pub packet_at : Under → RxTurn → RxStage → List Packet
 packet_at u t rx.Out = record {
-  file = u.file;
+  command = u.command;
   name = option_map (λ (f : FrameValue). f.name) t.held;
   header = t.header;
   quota = quota t.mergeable;
   had = 0;
 } ∷ []
 packet_at u t (rx.Discard had) =
-    record { file = u.file; name = None; header = t.header; quota = quota t.mergeable; had = had } ∷ []
+    record { command = u.command; name = None; header = t.header; quota = quota t.mergeable; had = had } ∷ []
 packet_at u t other = []
 
 abbrev pub taken : Under → RxTurn → Replay → Replay
@@ -166,9 +166,6 @@ turn_begun ring command actor v =
     if ring == 0 then Receiving (rx_begun v.settings.mrg (hdr_of v.settings))
     else Sending (tx_begun (hdr_of v.settings) (name_of actor command)) []
 
-abbrev pub file_on : ℕ → Vhost → ℕ
-file_on ring v = option_map_or (λ f. f) (if ring == 0 then v.settings.rx.file else v.settings.tx.file) 0
-
 abbrev pub begun : Case → StepAt → List StepAt → ℕ → ℕ → Vhost → Option (TurnText × Kind) → Replay → Option Replay
 begun c s ss vhost ring v (Some told) r =
     Some (if_step s (Some told.1) r (answers c s.at.command (answer.Turn 0 0 told.0 []) r))
@@ -176,11 +173,10 @@ begun c s ss vhost ring v None r =
     let u : Under = record {
       vhost = vhost;
       command = s.at.command;
-      file = file_on ring v;
-      turning = turn_begun ring s.at.command
-          s.at.actor v;
+      turning = turn_begun ring s.at.command s.at.actor v;
     } in
-    step_of c s ss u u.turning v (record r { files = r.files ++ (s.at.command, u.file) ∷ [] })
+    let t : Begun = record { command = s.at.command; header = hdr_of v.settings } in
+    step_of c s ss u u.turning v (record r { turns = r.turns ++ t ∷ [] })
 
 -- the next step of the command's turn, or its first one, where no other turn is under way on the ring
 abbrev pub turn_step : Case → StepAt → List StepAt → ℕ → ℕ → Vhost → Option Under → Replay → Option Replay

@@ -1,15 +1,16 @@
 -- This project's own: the replays of all guests, and what the clauses read off them.
-use Rattle.std.specs.Prelude.{ℕ, ◌==◌, not, if◌then◌else◌, Bool, false, List, [], ◌∷◌, length, nat_le, map, filter, flat_map, Option, Some, None}
+use Rattle.std.specs.Prelude.{ℕ, ◌==◌, not, if◌then◌else◌, Bool, false, List, [], ◌∷◌, map, filter, flat_map, Option, Some, None}
 use Rattle.std.specs.List.{list_any}
 use Rattle.std.specs.Option.{option_map_or}
 use Rattle.guest_mem.specs.Regions.{zeroed}
 use Rattle.guest_mem.specs.declared.region.Region.{Region}
 use Rattle.tap_world.specs.ByNumber.{numbered}
 use Rattle.tap_world.specs.Guests.{Vhost, new_vhost}
-use Rattle.tap_legal.specs.Numbered.{StepAt}
+use Rattle.tap_legal.specs.Numbered.{Asked, OpAt, StepAt}
 use Rattle.tap_legal.specs.Case.{Case}
-use Rattle.tap_legal.specs.Replay.{Accepted, Packet, Replay}
+use Rattle.tap_legal.specs.Replay.{Accepted, Begun, Packet, Replay}
 use Rattle.tap_legal.specs.ReplayTurns.{replay}
+use Rattle.tap_legal.specs.Served.{gives, setter_of}
 
 -- ---- the replays
 
@@ -26,7 +27,7 @@ fresh c guest regions = record {
   under = [];
   packets = [];
   accepted = [];
-  files = [];
+  turns = [];
   finished = [];
   fails = [];
   broken = false;
@@ -46,10 +47,11 @@ replays c = map (replay_of c) (numbered 0 c.setup.guests)
 abbrev pub is_whole : Replays → Bool
 is_whole rs = not (list_any (λ (r : ℕ × Replay). r.1.broken) rs)
 
--- the file of a turn, as the replay has it
-abbrev pub files_of : ℕ → Replays → List ℕ
-files_of command rs =
-    flat_map (λ (r : ℕ × Replay). map (λ (t : ℕ × ℕ). t.1) (filter (λ (t : ℕ × ℕ). t.0 == command) r.1.files)) rs
+-- the header's size of a turn
+abbrev pub headers_of : ℕ → Replays → List ℕ
+headers_of command rs =
+    flat_map (λ (r : ℕ × Replay). map (λ (t : Begun). t.header)
+    (filter (λ (t : Begun). t.command == command) r.1.turns)) rs
 
 -- the turn was replayed to its end
 abbrev pub was_replayed : ℕ → Replays → Bool
@@ -61,12 +63,14 @@ flows_of command rs =
     flat_map (λ (r : ℕ × Replay). map (λ (a : Accepted). a.flow)
     (filter (λ (a : Accepted). a.command == command) r.1.accepted)) rs
 
--- the packets on a file
-abbrev pub packets_of : ℕ → Replays → List Packet
-packets_of file rs =
-    flat_map (λ (r : ℕ × Replay). filter (λ (p : Packet). p.file == file) r.1.packets) rs
+-- the packets of the turns that serve what a `backend` command set
+abbrev pub is_set_by : Case → ℕ → Packet → Bool
+is_set_by c command p = option_map_or (λ (a : Asked). a.told.command == command) (setter_of c p.command) false
 
--- they are all of one guest, so that their order is known
-abbrev pub are_of_one : ℕ → Replays → Bool
-are_of_one file rs =
-    nat_le (length (filter (λ (r : ℕ × Replay). list_any (λ (p : Packet). p.file == file) r.1.packets) rs)) 1
+abbrev pub packets_under : Case → Replays → ℕ → List Packet
+packets_under c rs command = flat_map (λ (r : ℕ × Replay). filter (is_set_by c command) r.1.packets) rs
+
+-- the packets on a file: it has one worker at a time, so they follow the operations that made one of a vhost
+abbrev pub packets_of : Case → ℕ → Replays → List Packet
+packets_of c file rs =
+    flat_map (λ (o : OpAt). packets_under c rs o.at.command) (filter (λ (o : OpAt). gives file o.op) c.ops)

@@ -28,7 +28,7 @@ first_failing ((letter, line ∷ lines) ∷ more) = Some (letter, fold min line 
 abbrev pub failing : Case → Replays → List Failing
 failing c rs =
     (clause.A, a_fails c rs) ∷ (clause.B, b_fails c) ∷ (clause.C, c_fails c) ∷ (clause.D, d_fails c)
-    ∷ (clause.E, e_fails c) ∷ (clause.F, f_fails c rs) ∷ (clause.G, g_fails c rs) ∷ (clause.H, h_fails c rs) ∷ []
+    ∷ (clause.E, e_fails c) ∷ (clause.F, f_fails c) ∷ (clause.G, g_fails c rs) ∷ (clause.H, h_fails c rs) ∷ []
 
 abbrev pub judged : Case → Option (Clause × ℕ)
 judged c = first_failing (failing c (replays c))

@@ -1,0 +1,5 @@
+pub mod Play
+pub mod Change
+pub mod Texts
+pub mod Runs
+pub mod Verdicts

@@ -1,0 +1,11 @@
+-- This project's own: the traces of runs, byte for byte.
+use Rattle.std.specs.Prelude.{◌≡◌, Some}
+use Rattle.legal_examples.specs.Play.{output}
+use Rattle.legal_examples.specs.Texts.{guests, guests_trace, no_ring, no_ring_trace, one_place, one_place_trace, workers, workers_trace}
+
+abbrev pub RunsAreAsWritten : Type 0
+RunsAreAsWritten =
+    (output 0 guests ≡ Some guests_trace)
+    × (output 0 no_ring ≡ Some no_ring_trace)
+    × (output 0 workers ≡ Some workers_trace)
+    × (output 0 one_place ≡ Some one_place_trace)

@@ -1,0 +1,78 @@
+-- This project's own: scenarios and the traces of their runs, as texts.
+use Rattle.std.specs.Prelude.{ℕ, List, ◌++◌, codes}
+
+-- ---- bytes of two guests
+
+-- a poke of one guest; a peek and a poke of another
+abbrev pub guests : List ℕ
+guests =
+    codes "tapscen 1\nregion 0 0 4096\nregion 1 0 4096\npoke 0 16 aa\npeek 1 16 1\npoke 1 16 bb\n"
+
+-- its trace
+abbrev pub guests_trace : List ℕ
+guests_trace =
+    codes "taptrace 1\nphase 0 1\nans 0 0 0 ok\nans 0 1 0 bytes 00\nans 0 2 0 ok\nguest 0\nstep 0 0 poke\n"
+    ++ codes "guest 1\nstep 0 1 peek\nstep 0 2 poke\nend\n"
+
+-- ---- a ring that isn't there
+
+-- a backend for a ring that the vhost hasn't
+abbrev pub no_ring : List ℕ
+no_ring =
+    codes "tapscen 1\nfile 0 1\nregion 0 0 4096\nvhost 0 0\nbackend 0 2 0\n"
+
+-- its trace: a refusal without a step
+abbrev pub no_ring_trace : List ℕ
+no_ring_trace =
+    codes "taptrace 1\nphase 0 1\nans 0 0 0 verr ENOBUFS\nfile 0 0 0\nguest 0\nring 0 0\nbase 0\nring 0 1\n"
+    ++ codes "base 0\nend\n"
+
+-- ---- two workers
+
+-- a file is served by a vhost of one guest, and then by one of another
+abbrev pub workers : List ℕ
+workers =
+    codes "tapscen 1\nfile 0 4\nregion 0 0 65536\nregion 1 0 65536\nvhost 0 0\nvhost 1 1\n"
+    ++ codes "setiff 0 tap0 5102\nhdrsize 0 12\nfeatures 0 0000000130008000\nfeatures 1 0000000130008000\n"
+    ++ codes "vnum 0 0 2\ndrive 0 0 0\nvaddr 0 0 0 32 44\nbackend 0 0 0\npostin 0 0 100\n"
+    ++ codes "send tap0 - 0200000000010200000000020800aabbccddeeff\n"
+    ++ codes "send tap0 - 0200000000010200000000020800001122334455\nrxturn 0\nbackend 0 0 -\nvnum 1 0 2\n"
+    ++ codes "drive 1 0 0\nvaddr 1 0 0 32 44\nbackend 1 0 0\npostin 1 0 100\nrxturn 1\n"
+    ++ codes "send tap0 - 0200000000010200000000020800\nrxturn 1\nbackend 1 0 0\nclose 0\n"
+
+-- its trace
+abbrev pub workers_trace : List ℕ
+workers_trace =
+    codes "taptrace 1\nphase 0 1\nop 1 0 setiff 0 tap0 5102\nop 2 1 hdrsize 0 12\nop 3 7 back 0 rx 0\n"
+    ++ codes "op 4 12 back 0 rx -\nop 5 16 back 0 rx 1\nans 0 0 1 ok 1\nans 0 1 2 ok 2\nans 0 2 2 ok\n"
+    ++ codes "ans 0 3 2 ok\nans 0 4 2 ok\nans 0 5 2 ok\nans 0 6 2 ok\nans 0 7 3 ok 3\nans 0 8 3 posted 0\n"
+    ++ codes "ans 0 9 3 placed 0 0 1 20\nans 0 10 3 placed 0 1 1 20\nans 0 11 3 turn 1 32 short 32 0\n"
+    ++ codes "ans 0 12 4 ok 4\nans 0 13 4 ok\nans 0 14 4 ok\nans 0 15 4 ok\nans 0 16 5 ok 5\n"
+    ++ codes "ans 0 17 5 posted 0\nans 0 18 5 turn 1 32 idle\nans 0 19 5 placed 0 2 1 14\n"
+    ++ codes "ans 0 20 5 turn 0 0 short 26 0\nans 0 21 5 verr EBUSY\nans 0 22 5 err EBUSY Backed\nfile 0 3 3\n"
+    ++ codes "line 0 1 0.9.0 20 guest\nline 1 1 0.10.0 20 guest\nline 2 1 0.19.0 14 waiting\nguest 0\n"
+    ++ codes "step 0 2 features 0\nstep 0 4 num 0 0\nstep 0 5 drive 0 0\nstep 0 6 addr 0 0\n"
+    ++ codes "step 0 7 backend 0 0 1\nstep 0 8 post 0 0\nstep 0 11 notices 0 0 0\nstep 0 11 fetch 0 0 0 0\n"
+    ++ codes "step 0 11 copy 0 0 0 0.9.0\nstep 0 11 none 0 0\nstep 0 11 notices 0 0 1\nstep 0 11 none 0 0\n"
+    ++ codes "step 0 11 publish 0 0 1 1\nstep 0 12 backend 0 0 1\nguest 1\nstep 0 3 features 1\n"
+    ++ codes "step 0 13 num 1 0\nstep 0 14 drive 1 0\nstep 0 15 addr 1 0\nstep 0 16 backend 1 0 1\n"
+    ++ codes "step 0 17 post 1 0\nstep 0 18 notices 1 0 0\nstep 0 18 fetch 1 0 0 0\n"
+    ++ codes "step 0 18 copy 1 0 0 0.10.0\nstep 0 18 publish 1 0 1 1\nstep 0 20 notices 1 0 0\n"
+    ++ codes "step 0 20 none 1 0\nstep 0 20 notices 1 0 1\nstep 0 20 none 1 0\nstep 0 21 backend 1 0 0\n"
+    ++ codes "ring 0 0\nbase 0\nused 0 0 32\nring 0 1\nbase 0\nring 1 0\nbase 0\nused 0 0 32\nring 1 1\nbase 0\n"
+    ++ codes "end\n"
+
+-- ---- one place
+
+-- two sends to a ring of one place, and a read
+abbrev pub one_place : List ℕ
+one_place =
+    codes "tapscen 1\nfile 0 1\nsetiff 0 tap0 1102\nsend tap0 - 0200000000010200000000020800\n"
+    ++ codes "send tap0 - 0200000000010200000000020800\nread 0 100\n"
+
+-- its trace
+abbrev pub one_place_trace : List ℕ
+one_place_trace =
+    codes "taptrace 1\nphase 0 1\nop 1 0 setiff 0 tap0 1102\nans 0 0 1 ok 1\nans 0 1 1 placed 0 0 1 14\n"
+    ++ codes "ans 0 2 1 drop Full 0 1 0\nans 0 3 1 read 0.1.0 0 0200000000010200000000020800\nfile 0 1 1\n"
+    ++ codes "line 0 1 0.1.0 14 read\nend\n"

@@ -1,0 +1,19 @@
+//! Worked runs and verdicts: scenarios played from text to text, and traces with one thing changed.
+//!
+//! `specs/Texts.antt` has the scenarios and their traces, `specs/Runs.antt` says that the runs give these, and
+//! `specs/Verdicts.antt` what is legal and which clause fails after each change. Definitions alone.
+#![tactic(auto)]
+
+ghost use Rattle.legal_examples.specs.Runs.{RunsAreAsWritten};
+ghost use Rattle.legal_examples.specs.Verdicts.{ChangesAreIllegal, RunsAreLegal};
+
+/// The runs of these scenarios give these traces, byte for byte.
+pub fn runs_are_as_written()
+    ensures { RunsAreAsWritten }
+{}
+
+/// Each run's trace is legal; with one thing changed it fails at the clause and the line that the rules say.
+pub fn verdicts_are_as_said()
+    ensures legal { RunsAreLegal }
+    ensures illegal { ChangesAreIllegal }
+{}
