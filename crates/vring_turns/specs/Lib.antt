@@ -16,3 +16,4 @@ pub mod TxCases
 pub mod RxLine
 pub mod Publications
 pub mod Standing
+pub mod Ends

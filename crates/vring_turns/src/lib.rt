@@ -26,8 +26,8 @@ pub use crate::cases::{gathering_examples, publishing_examples, transmit_cases};
 pub use crate::end::{End, TurnEnd};
 pub use crate::fetches::{lie_in, told_of};
 pub use crate::laws::{
-    receive_examples, receive_standing, receive_turns, transmit_examples, transmit_standing,
-    transmit_turns,
+    receive_ends, receive_examples, receive_standing, receive_turns, transmit_ends,
+    transmit_examples, transmit_standing, transmit_turns,
 };
 pub use crate::limits::{is_enough, is_published};
 pub use crate::stage::{After, RxStage, TxStage};
