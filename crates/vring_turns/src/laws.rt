@@ -23,6 +23,8 @@ pub fn transmit_turns()
 /// What a whole receive turn did, whatever others write into the memory between its steps: packets and
 /// bytes are those of the frames that left the line; the chains into which frames were copied are published
 /// or done with the bytes that they got, in their order, behind all that was before; and no other chain is.
+/// Its queue of frames keeps its order, whatever others send, purge or cut between its steps; and a turn that
+/// ends as too short or stopped has put back the one frame that it had in hand.
 pub fn receive_turns()
     ensures chains { ReceiveTurnsDo }
     ensures publications { ReceiveTurnsPublish }
