@@ -68,6 +68,7 @@ pub fn read_parts(shape: Shape, name: Name, front: &[u8], ether: Vec<u8>) -> Res
     ensures spelled { IfOk result (λ frame. Spelled shape (front.now ++ ether.items) frame.hdr frame.made) }
     ensures hdr { IfOk result (λ frame. frame.hdr ≡ header_in shape (front.now ++ ether.items)) }
     ensures made { IfOk result (λ frame. frame.made ≡ ether.items) }
+    ensures behind { IfOk result (λ frame. frame.made ≡ behind_header shape (front.now ++ ether.items)) }
     ensures whole { IfOk result (λ frame. frame.mark ≡ length frame.made) }
     ensures named { IfOk result (λ frame. frame.name ≡ name) }
     ensures accepted { OnOk result (first_case shape (front.now ++ ether.items) ≡ None) }

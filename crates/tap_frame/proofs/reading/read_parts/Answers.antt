@@ -14,3 +14,8 @@ returns-clause-spelled c =
     rw (c.new.ensures, c.in_ok-hdr.ensures.hdr, ← c.deref.ensures.value)
     (subst (λ (e : List ℕ). Spelled shape (front ++ ether) (header_in shape (front ++ ether)) e) (sym made)
     (accepted_spells shape (front ++ ether) c.in_ok-hdr.ensures.accepted))
+
+pub returns-clause-behind : goal.returns-clause-behind
+returns-clause-behind c =
+    rw (c.new.ensures, ← c.deref.ensures.value)
+    (sym (drop_at c.args.front.now c.deref.result.now (least_room c.args.shape) c.in_ok-hdr.ensures.room))
