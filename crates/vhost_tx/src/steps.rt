@@ -92,11 +92,10 @@ impl TxWorker {
     }
 
     // Reads the chain that was fetched, and what its bytes spell under a name.
-    fn read(&mut self, mem: &Memory, name: Name) -> Read
-        requires some { length self.old.turn.chains ≡ 1 }
-        requires lies { LieIn (covers mem.now.regions) self.old.turn.chains }
-        ensures read { IsRead self.old.turn mem.now name result.head result.counted result.judged }
-        ensures worker { self.new ≡ self.old }
+    fn read(&self, mem: &Memory, name: Name) -> Read
+        requires some { length self.now.turn.chains ≡ 1 }
+        requires lies { LieIn (covers mem.now.regions) self.now.turn.chains }
+        ensures { IsRead self.now.turn mem.now name result.head result.counted result.judged }
     {
         let head = match self.head {
             Some(head) => head,
@@ -106,7 +105,6 @@ impl TxWorker {
             self.alloc,
             mem,
             self.room.list(),
-            &mut self.buffer,
             self.hdr,
             name,
         );
