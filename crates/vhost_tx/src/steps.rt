@@ -9,14 +9,13 @@ ghost use Rattle.vring_turns.specs.Turn.{event_of, IfMore};
 ghost use Rattle.vhost_tx.specs.Worker.{IsSteady, Fits, Changes, state_of, out_of_memory};
 ghost use Rattle.vhost_tx.specs.Copying.{counting, holding, IsRead};
 
-use crate::fetches::closing;
 use crate::gather::{Judged, Reading, read_chain};
 use crate::worker::{TxStep, TxWorker};
 use guest_mem::Memory;
 use tap_frame::{Frame, Name};
 use tap_ledger::{Act, HostIn};
 use vhost_queue::Vq;
-use vring_turns::{End, TxStage, is_published};
+use vring_turns::{End, TxStage, closing, is_published};
 
 // What was read of a chain: its head, for how many bytes it counts, and what its bytes are.
 struct Read {

@@ -178,7 +178,7 @@ packet_tells :
     → rx_end_at st ≡ [] → rx_is_second st ≡ false → turns_on told ≡ false → rx_enough u.turn ≡ enough
     → u.turn.stage
     ≡ (if enough then (if none then rx.Ended end.Again else rx.Publish (Some end.Again))
-      else (if many then rx.Publish None else rx.Hand))
+    else (if many then rx.Publish None else rx.Hand))
     → rx_ends_at false told s u ≡ (if enough then end.Again ∷ [] else [])
     → (RxStandsAt st s.turn s.queue → IsShortAt told s)
     → Tells st s (u, told)
@@ -337,6 +337,7 @@ all_short laws t t' q q' (m ∷ ms) stands run =
     let right : RxStands m.before.turn m.before.queue = subst Q (sym run.1) (subst P (sym run.0) stands) in
     let then_ : RxStands m.after.turn m.after.queue =
     receive_stands laws m.before.turn m.after.turn m.before.queue m.after.queue (m ∷ []) right
-    (refl, refl, run.2, (refl, refl)) in
-    ((step_tells m.before m.after m.told m.hand m.before.turn.stage refl run.2).short right.stage,
-        all_short laws m.after.turn t' m.after.queue q' ms then_ run.3)
+    (refl, refl, run.2, (refl, refl)) in (
+      (step_tells m.before m.after m.told m.hand m.before.turn.stage refl run.2).short right.stage,
+      all_short laws m.after.turn t' m.after.queue q' ms then_ run.3,
+    )

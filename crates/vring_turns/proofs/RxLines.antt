@@ -378,9 +378,9 @@ meets t f g (Cuts frame) back h does =
     let held = option_to_list t.held in
     let whole : (gone : List FrameValue) → gone ++ (held ++ f.waiting) ≡ (gone ++ (held ++ g.waiting)) ++ frame ∷ [] =
     λ gone.
-        ap (λ l. gone ++ (held ++ l)) does.0
-        ∙ (ap (λ l. gone ++ l) (sym (append_assoc held g.waiting (frame ∷ [])))
-        ∙ sym (append_assoc gone (held ++ g.waiting) (frame ∷ []))) in
+    ap (λ l. gone ++ (held ++ l)) does.0
+    ∙ (ap (λ l. gone ++ l) (sym (append_assoc held g.waiting (frame ∷ [])))
+    ∙ sym (append_assoc gone (held ++ g.waiting) (frame ∷ []))) in
     record {
       out = does.1 ∙ sym (append-nil f.out);
       line = λ gone.
@@ -423,7 +423,7 @@ then_passes t u t' f g f' e es back now out line backs rest =
           ∙ (sym (append_assoc gone (F ys) (F (left_by es) ++ behind))
           ∙ (rest.line (gone ++ F ys)
           ∙ ap (line_by es) (append_assoc gone (F ys) (option_to_list u.held ++ g.waiting)
-            ∙ sym (line gone)))));
+          ∙ sym (line gone)))));
       handles = let P : List FrameValue → Type 0 = λ l. Handles t' f' l in subst P (sym backs) rest.handles;
     }
 
@@ -448,10 +448,10 @@ run_passed t t' q q' f f' (Makes m more ∷ es) back h run (g, happens, moves) =
     let rest = run_passed m.after.turn t' m.after.queue q' g f' es (back_at st b.turn back) one.handles run.3 moves in
     let P : RxTurn → Type 0 = λ u. Passed u t' f f' (Makes m more ∷ es) back in
     let line : (gone : List FrameValue)
-        → (gone ++ (option_to_list b.turn.held ++ f.waiting)) ++ more
-        ≡ gone ++ (map frame_of (leaves_at st b.turn) ++ (option_to_list m.after.turn.held ++ g.waiting)) =
+    → (gone ++ (option_to_list b.turn.held ++ f.waiting)) ++ more
+    ≡ gone ++ (map frame_of (leaves_at st b.turn) ++ (option_to_list m.after.turn.held ++ g.waiting)) =
     λ gone.
-        append_assoc gone (option_to_list b.turn.held ++ f.waiting) more ∙ ap (λ l. gone ++ l) (sym one.line) in
+    append_assoc gone (option_to_list b.turn.held ++ f.waiting) more ∙ ap (λ l. gone ++ l) (sym one.line) in
     subst P run.0
     (then_passes b.turn m.after.turn t' f g f' (Makes m more) es back (back_at st b.turn back) one.out line refl rest)
 run_passed t t' q q' f f' (Meets other ∷ es) back h run (g, happens, moves) =

@@ -169,7 +169,7 @@ packet_tells :
     → tx_end_at st ≡ [] → tx_is_second st ≡ false → turns_on told ≡ false → tx_enough u.turn ≡ enough
     → u.turn.stage
     ≡ (if enough then (if none then tx.Ended end.Again else tx.Publish (Some end.Again))
-      else (if many then tx.Publish None else tx.Fetch))
+    else (if many then tx.Publish None else tx.Fetch))
     → tx_ends_at false told u ≡ (if enough then end.Again ∷ [] else [])
     → Tells st t (u, told)
 packet_tells st t u told true many none no_end first off enough is ends =
@@ -291,10 +291,10 @@ run_tells t t' q q' (m ∷ ms) run =
       ends = rest.ends
           ∙ (ap (λ front. front ++ tx_ends_by (tx_is_second m.after.turn.stage) ms) one.ends
           ∙ (ap (λ back.
-              (tx_end_at m.before.turn.stage
-              ++ tx_ends_at (tx_is_second m.before.turn.stage) m.told m.after) ++ back) later
+          (tx_end_at m.before.turn.stage
+          ++ tx_ends_at (tx_is_second m.before.turn.stage) m.told m.after) ++ back) later
           ∙ append_assoc (tx_end_at m.before.turn.stage)
-            (tx_ends_at (tx_is_second m.before.turn.stage) m.told m.after) (tx_ends_by (turns_on m.told) ms)));
+          (tx_ends_at (tx_is_second m.before.turn.stage) m.told m.after) (tx_ends_by (turns_on m.told) ms)));
       again = λ h. rest.again (one.again h);
     })
 

@@ -15,6 +15,7 @@
 #![tactic(auto)]
 
 mod cases;
+mod close;
 mod end;
 mod fetches;
 mod laws;
@@ -23,6 +24,7 @@ mod stage;
 mod step;
 
 pub use crate::cases::{gathering_examples, publishing_examples, transmit_cases};
+pub use crate::close::{Closes, closing};
 pub use crate::end::{End, TurnEnd};
 pub use crate::fetches::{lie_in, told_of};
 pub use crate::laws::{
