@@ -22,7 +22,7 @@ pub length-bytes_from : (bs : ByteList) (a n : ℕ) → length (bytes_from bs a 
 unfolding bytes_from
 length-bytes_from bs a n = length-filled n _ a
 
-none_from : (bs : ByteList) (a : ℕ) → bytes_from bs a 0 ≡ []
+pub none_from : (bs : ByteList) (a : ℕ) → bytes_from bs a 0 ≡ []
 unfolding bytes_from
 none_from bs a = refl
 

@@ -33,6 +33,9 @@ fn read_at(mem: &Memory, addr: u64, room: &mut [u8], at: usize, len: usize)
     requires covered { IsTrue (covers mem.now.regions addr len) }
     ensures { take (at + len) room.new ≡ take at room.old ++ bytes_from mem.now.bytes addr len }
 {
+    if len == 0 {
+        return;
+    }
     match mem.read(addr, &mut room[at..at + len]) {
         Ok(()) => {}
         Err(_) => unreachable!(),
