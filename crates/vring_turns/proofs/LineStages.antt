@@ -5,12 +5,10 @@ use Rattle.vring_walk.specs.declared.walk.Fetched.TheVariants.{Chain, Nothing, B
 use Rattle.tap_frame.specs.Frame.{FrameValue}
 use Rattle.vring_turns.specs.declared.end.End.{End}
 use Rattle.vring_turns.specs.declared.end.End.TheVariants as end
-use Rattle.vring_turns.specs.declared.stage.RxStage.{RxStage}
 use Rattle.vring_turns.specs.declared.stage.RxStage.TheVariants as stage
 use Rattle.vring_turns.specs.declared.stage.After.{After}
 use Rattle.vring_turns.specs.declared.stage.After.TheVariants as after
 use Rattle.vring_turns.specs.Ring.{Gathered, room_in}
-use Rattle.vring_turns.specs.ReceiveImage.{need_of}
 use Rattle.vring_turns.specs.RxTurn.{RxTurn, quota, goes_on, stage_of, rx_after_fetch, rx_after_second}
 use Rattle.vring_turns.specs.RxRun.{needed_by}
 use Rattle.vring_turns.specs.RxLine.{has_frame, PutsBack, PutsBackAt}

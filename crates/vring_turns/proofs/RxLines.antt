@@ -8,8 +8,7 @@ use Rattle.tap_frame.specs.Frame.{FrameValue}
 use Rattle.tap_ledger.specs.declared.act.Act.{Act}
 use Rattle.tap_ledger.specs.declared.act.Act.TheVariants as act
 use Rattle.tap_ledger.specs.declared.fate.Fate.{Fate}
-use Rattle.tap_ledger.specs.declared.fate.Fate.TheVariants.{Guest, Discarded}
-use Rattle.tap_ledger.specs.declared.fate.Cause.TheVariants.{Purged}
+use Rattle.tap_ledger.specs.declared.fate.Fate.TheVariants.{Guest}
 use Rattle.tap_ledger.specs.declared.hand.OutFrame.{OutFrame}
 use Rattle.tap_ledger.specs.declared.hand.Hand.{Hand}
 use Rattle.tap_ledger.specs.declared.hand.Hand.TheVariants as hand
@@ -23,7 +22,7 @@ use Rattle.vring_turns.specs.Turn.{is_enough, publishes_at}
 use Rattle.vring_turns.specs.ReceiveImage.{need_of}
 use Rattle.vring_turns.specs.Hands.{Hands, MovesAt}
 use Rattle.vring_turns.specs.RxTurn.{RxTurn, RxState, overrun, rx_ring, rx_made, rewinding, rx_outs, rx_puts_back, rx_hands, rx_with, rx_in_hand, rx_next, stage_of, rx_at, rx_closing, rx_rewinds, rx_way, rx_after_fetch, rx_after_second}
-use Rattle.vring_turns.specs.RxRun.{RxMoment, IsRxRun, needed_by}
+use Rattle.vring_turns.specs.RxRun.{IsRxRun, needed_by}
 use Rattle.vring_turns.specs.RxLine.{Other, Joins, Purges, Cuts, LineEvent, Makes, Meets, Does, IsKnownAt, AreMoves, own_steps, with_fate, leaves_at, left_at, left_by, line_at, line_by, back_at, back_by, has_frame, PutsBack, TellsNeed, PutsBackAt, Handles, PassesLine}
 use Rattle.vring_turns.proofs.TxRuns.{some_is}
 use Rattle.vring_turns.proofs.RxRuns.{published_made, copied_made}

@@ -21,7 +21,7 @@ use Rattle.vring_turns.specs.Ring.{Gathered, Made, joined, told_of, found, fetch
 use Rattle.vring_turns.specs.TransmitBytes.{bytes_of_chain, refusal_of}
 use Rattle.vring_turns.specs.TxTurn.{TxTurn, TxState, tx_begun, tx_ring, tx_made, tx_done, tx_judged, tx_copies, tx_gives, tx_after_packet, tx_after_fetch, tx_after_second, tx_after_notices, tx_next}
 use Rattle.vring_turns.specs.TxRun.{Moment, IsTxRun}
-use Rattle.vring_turns.specs.Ends.{turns_on, is_again, first_answer, tx_enough, tx_ends_at, tx_ends_by, tx_end_at, tx_is_second, TxAgainAt, TxEnds, IsWholeTx}
+use Rattle.vring_turns.specs.Ends.{turns_on, is_again, tx_enough, tx_ends_at, tx_ends_by, tx_end_at, tx_is_second, TxAgainAt, TxEnds, IsWholeTx}
 use Rattle.vring_turns.proofs.TxRuns.{some_is, published_made}
 
 -- what a step at a stage brings about and leaves

@@ -17,3 +17,4 @@ pub mod RxLine
 pub mod Publications
 pub mod Standing
 pub mod Ends
+pub mod EndExamples

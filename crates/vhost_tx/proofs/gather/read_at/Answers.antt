@@ -1,4 +1,4 @@
-use Rattle.std.proofs.Common.{◌≡◌, ℕ, ◌+◌, take, sym, arith}
+use Rattle.std.proofs.Common.{◌≡◌, ◌+◌, take, sym, arith}
 use Rattle.std.proofs.lemmas.List.{append-nil}
 use Rattle.vhost_tx.proofs.Gathered.{none_from}
 use Rattle.vhost_tx.proofs.gather.read_at.Goals as goal

@@ -1,4 +1,4 @@
-use Rattle.std.proofs.Common.{◌≡◌, ℕ, ◌+◌, List, subst, sym, ap, ◌∙◌, arith}
+use Rattle.std.proofs.Common.{◌≡◌, ℕ, ◌+◌, List, subst, ap, ◌∙◌}
 use Rattle.vring_walk.specs.Spread.{first_gathered}
 use Rattle.vhost_tx.specs.Copying.{IsJudged}
 use Rattle.vhost_tx.proofs.Gathered.{first_all}
