@@ -1,11 +1,26 @@
-//! How a turn of either kind closes.
+//! How a turn of either kind answers at once, and how it closes.
 ghost use Rattle.std.specs.Prelude.{◌≡◌, ◌==◌, Some, if◌then◌else◌};
+ghost use Rattle.vring_turns.specs.Ends.{first_answer as answered};
 ghost use Rattle.vring_turns.specs.Ring.{done_in};
 ghost use Rattle.vring_turns.specs.declared.end.End.{End as Ending};
 
 use crate::end::End;
 use crate::stage::{RxStage, TxStage};
 use vhost_queue::Vq;
+use vring_split::RingFault;
+
+/// The answer of a turn that does nothing: its ring has no backend, or is stopped since that was set.
+pub fn first_answer(backed: bool, stopped: Option<RingFault>) -> Option<End>
+    ensures { result ≡ answered backed stopped }
+{
+    if !backed {
+        return Some(End::Off);
+    }
+    match stopped {
+        Some(fault) => Some(End::Stopped(fault)),
+        None => None,
+    }
+}
 
 /// The stages of a turn, of which two close it.
 pub trait Closes {

@@ -24,7 +24,7 @@ mod stage;
 mod step;
 
 pub use crate::cases::{end_examples, gathering_examples, publishing_examples, transmit_cases};
-pub use crate::close::{Closes, closing};
+pub use crate::close::{Closes, closing, first_answer};
 pub use crate::end::{End, TurnEnd};
 pub use crate::fetches::{lie_in, told_of};
 pub use crate::laws::{

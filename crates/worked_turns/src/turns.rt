@@ -8,7 +8,7 @@ use tap_ledger::{MemHost, MemQueue};
 use vhost_queue::Vq;
 use vhost_rx::RxWorker;
 use vhost_tx::TxWorker;
-use vring_turns::{End, TurnEnd};
+use vring_turns::{End, TurnEnd, first_answer};
 
 const NAME: Name = Name {
     actor: 0,
@@ -61,11 +61,9 @@ fn send(alloc: Global, vq: &mut Vq, mem: &mut Memory, hdr: u16) -> Result<TurnEn
 
 /// A transmit turn of the vhost.
 pub fn transmit(alloc: Global, lab: &mut Lab) -> Result<TurnEnd> {
-    if lab.dev.backend(false).is_none() {
-        return Ok(none(End::Off));
-    }
-    if let Some(fault) = lab.dev.queue(false).stopped() {
-        return Ok(none(End::Stopped(fault)));
+    let backed = lab.dev.backend(false).is_some();
+    if let Some(end) = first_answer(backed, lab.dev.queue(false).stopped()) {
+        return Ok(none(end));
     }
     let hdr = lab.dev.hdr();
     send(alloc, lab.dev.vq(false), &mut lab.mem, hdr)
@@ -95,11 +93,9 @@ fn take(
 
 /// A receive turn of the vhost.
 pub fn receive(alloc: Global, lab: &mut Lab) -> Result<TurnEnd> {
-    if lab.dev.backend(true).is_none() {
-        return Ok(none(End::Off));
-    }
-    if let Some(fault) = lab.dev.queue(true).stopped() {
-        return Ok(none(End::Stopped(fault)));
+    let backed = lab.dev.backend(true).is_some();
+    if let Some(end) = first_answer(backed, lab.dev.queue(true).stopped()) {
+        return Ok(none(end));
     }
     let hdr = lab.dev.hdr();
     let mergeable = lab.dev.mrg();
