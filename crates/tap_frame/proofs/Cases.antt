@@ -37,7 +37,7 @@ pub no_case : (shape : Shape) (bytes : List ℕ) → Faultless shape bytes → f
 no_case shape bytes f = rw (f.pi, le-ltb _ _ f.hdr, le-ltb _ _ f.beyond, le-ltb _ _ f.ether, f.reach, le-ltb _ _ f.most) refl
 
 -- the packet information
-enough : (pi : Bool) (long : ℕ) → (pi && ltb long 4) ≡ false → pi ≡ true → 4 ≤ long
+pub enough : (pi : Bool) (long : ℕ) → (pi && ltb long 4) ≡ false → pi ≡ true → 4 ≤ long
 enough true long e is = ltb-false long 4 e
 enough false long e is = absurd cc
 
@@ -73,7 +73,7 @@ faultless_spells shape bytes f = record {
 pub accepted_spells : (shape : Shape) (bytes : List ℕ) → first_case shape bytes ≡ None → Spelled shape bytes (header_in shape bytes) (behind_header shape bytes)
 accepted_spells shape bytes e = faultless_spells shape bytes (faultless shape bytes e)
 
-no_short_pi : (pi : Bool) (long : ℕ) → cond pi 4 0 ≤ long → (pi && ltb long 4) ≡ false
+pub no_short_pi : (pi : Bool) (long : ℕ) → cond pi 4 0 ≤ long → (pi && ltb long 4) ≡ false
 no_short_pi true long le = le-ltb long 4 le
 no_short_pi false long le = refl
 

@@ -1,3 +1,4 @@
 mod Cases
 mod Parts
 mod Written
+mod Apart

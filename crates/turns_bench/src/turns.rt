@@ -2,51 +2,19 @@
 use crate::ring::{HDR, Ring};
 use anyhow::{Context, Result, bail, ensure};
 use guest_mem::Memory;
-use std::alloc::{AllocError, Global};
+use std::alloc::Global;
 use std::time::Instant;
 use tap_frame::{Name, Shape, read_frame};
-use tap_ledger::{FrameQueue, HostIn, MemHost, MemQueue};
+use tap_ledger::{MemHost, MemQueue};
 use vhost_queue::Vq;
-use vhost_rx::{RxStep, RxWorker};
-use vhost_tx::{TxStep, TxWorker};
-use vring_turns::TurnEnd;
-use vring_walk::is_good;
-
-/// More steps than a turn has.
-const STEPS: u32 = 10_000;
+use vhost_rx::RxWorker;
+use vhost_tx::TxWorker;
 
 const NAME: Name = Name {
     actor: 0,
     turn: 0,
     part: 0,
 };
-
-fn send_step(
-    worker: &mut TxWorker,
-    vq: &mut Vq,
-    mem: &mut Memory,
-    host: &mut MemHost,
-) -> Option<TxStep> {
-    if is_good(mem, &vq.layout()) && worker.fits(vq) && worker.lies_in(mem) && host.room() > 0 {
-        Some(worker.step(vq, mem, host))
-    } else {
-        None
-    }
-}
-
-fn send_all(
-    worker: &mut TxWorker,
-    vq: &mut Vq,
-    mem: &mut Memory,
-    host: &mut MemHost,
-) -> Option<TurnEnd> {
-    for _ in 0..STEPS {
-        if let TxStep::Ended { act: _, turn } = send_step(worker, vq, mem, host)? {
-            return Some(turn);
-        }
-    }
-    None
-}
 
 // A turn from its beginning.
 fn send(alloc: Global, vq: &mut Vq, mem: &mut Memory, host: &mut MemHost) -> Result<u64> {
@@ -55,7 +23,7 @@ fn send(alloc: Global, vq: &mut Vq, mem: &mut Memory, host: &mut MemHost) -> Res
         "a turn is under way"
     );
     let mut worker = TxWorker::begin(alloc, vq, HDR, NAME)?;
-    let ended = send_all(&mut worker, vq, mem, host);
+    let ended = whole_turns::transmit(&mut worker, vq, mem, host);
     worker.abandon();
     let turn = ended.context("a step may not be made")?;
     Ok(turn.bytes)
@@ -71,37 +39,6 @@ pub fn transmit<R: AllocGlobal + std::rt::Clock>(rt: &R, ring: &mut Ring) -> Res
     Ok((sent?, took?.as_nanos()))
 }
 
-fn take_step(
-    worker: &mut RxWorker,
-    vq: &mut Vq,
-    queue: &mut MemQueue,
-    mem: &mut Memory,
-) -> Option<RxStep> {
-    if is_good(mem, &vq.layout())
-        && worker.fits(vq)
-        && worker.lies_in(mem)
-        && queue.in_hand() == worker.in_hand()
-    {
-        Some(worker.step(vq, queue, mem))
-    } else {
-        None
-    }
-}
-
-fn take_all(
-    worker: &mut RxWorker,
-    vq: &mut Vq,
-    queue: &mut MemQueue,
-    mem: &mut Memory,
-) -> Option<TurnEnd> {
-    for _ in 0..STEPS {
-        if let RxStep::Ended { act: _, turn } = take_step(worker, vq, queue, mem)? {
-            return Some(turn);
-        }
-    }
-    None
-}
-
 // A turn from its beginning.
 fn take(alloc: Global, vq: &mut Vq, queue: &mut MemQueue, mem: &mut Memory) -> Result<u64> {
     ensure!(
@@ -109,7 +46,7 @@ fn take(alloc: Global, vq: &mut Vq, queue: &mut MemQueue, mem: &mut Memory) -> R
         "a turn is under way"
     );
     let mut worker = RxWorker::begin(alloc, vq, true, HDR)?;
-    let ended = take_all(&mut worker, vq, queue, mem);
+    let ended = whole_turns::receive(&mut worker, vq, queue, mem);
     worker.abandon();
     let turn = ended.context("a step may not be made")?;
     Ok(turn.bytes)

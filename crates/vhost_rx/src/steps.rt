@@ -9,12 +9,11 @@ ghost use Rattle.vring_turns.specs.Turn.{event_of, IfMore};
 ghost use Rattle.vhost_rx.specs.Worker.{HandsOut, Ended, EndsUntold, Stepped, is_over, name_in_hand, counts_at, holds_at, IsSteady, Fits, Changes, state_of, need_in, ended_by};
 
 use crate::lay::front_of;
-use crate::ways::closing;
 use crate::worker::{RxStep, RxWorker};
 use guest_mem::Memory;
 use tap_ledger::{Act, Cause, Fate, FrameQueue, Hand};
 use vhost_queue::Vq;
-use vring_turns::{End, RxStage, is_enough, is_published};
+use vring_turns::{End, RxStage, closing, is_enough, is_published};
 
 impl RxWorker {
     // A packet is behind it: it did enough, or it publishes, or it goes on.

@@ -1,21 +1,9 @@
 //! How a receive turn goes on after a fetch.
 ghost use Rattle.std.specs.Prelude.{◌≡◌, List, if◌then◌else◌};
 ghost use Rattle.vring_turns.specs.Ring.{Gathered, room_in};
-ghost use Rattle.vring_turns.specs.RxTurn.{rx_closing, stage_of, gives_up, rx_after_fetch, rx_after_second, rx_rewinds};
+ghost use Rattle.vring_turns.specs.RxTurn.{stage_of, gives_up, rx_after_fetch, rx_after_second, rx_rewinds};
 
-use vhost_queue::Vq;
 use vring_turns::{After, End, RxStage};
-
-/// The turn ends: after a publication, where anything is done.
-pub fn closing(vq: &Vq, end: End) -> RxStage
-    ensures { result ≡ rx_closing end vq.now.queue }
-{
-    if vq.unpublished() == 0 {
-        RxStage::Ended(end)
-    } else {
-        RxStage::Publish { end: Some(end) }
-    }
-}
 
 /// The stage of a way.
 pub fn stage_of(way: After) -> RxStage

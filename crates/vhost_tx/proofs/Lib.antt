@@ -1,3 +1,4 @@
 mod Lies
 mod Told
 mod Steady
+mod Gathered

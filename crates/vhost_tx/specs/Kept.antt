@@ -1,5 +1,5 @@
 -- This project's own: how a transmit worker is kept.
-use Rattle.std.specs.Prelude.{◌≡◌, ℕ, ◌+◌, IsTrue, List, [], ◌∷◌, length, Option, None, Some}
+use Rattle.std.specs.Prelude.{ℕ, IsTrue, List, [], ◌∷◌, Option, None, Some}
 use Rattle.vring_split.specs.declared.segment.Segment.{Segment}
 use Rattle.vring_turns.specs.Ring.{Gathered}
 use Rattle.vring_turns.specs.TransmitBytes.{is_header_size}
@@ -28,7 +28,6 @@ worker_of w = record {
   next = w.next;
 }
 
--- the header is 10 or 12 bytes, and the buffer is as long as what is looked at of a chain
-pub record HasBuffer (w : Inside) : Type 0 where
-  pub size : IsTrue (is_header_size w.hdr)
-  pub buffer : length w.buffer.items ≡ w.hdr + 65536
+-- the header is 10 or 12 bytes
+abbrev pub HasSize : Inside → Type 0
+HasSize w = IsTrue (is_header_size w.hdr)

@@ -3,7 +3,7 @@ ghost use Rattle.std.specs.Prelude.{◌≡◌, ◌≢◌, ◌<◌, ◌||◌, [],
 ghost use Rattle.guest_mem.specs.Memory.{covers};
 ghost use Rattle.vhost_queue.specs.Queue.{IsGood};
 ghost use Rattle.vring_turns.specs.Ring.{LieIn, noticed, found, joined};
-ghost use Rattle.vring_turns.specs.TxTurn.{tx_closing, tx_after_fetch, tx_after_second, tx_after_notices, tx_fetches, tx_made, tx_ring, tx_next, at_stage};
+ghost use Rattle.vring_turns.specs.TxTurn.{tx_after_fetch, tx_after_second, tx_after_notices, tx_fetches, tx_made, tx_ring, tx_next, at_stage};
 ghost use Rattle.vhost_tx.specs.Worker.{IsSteady, Changes, ring_of};
 
 use crate::worker::TxWorker;
@@ -11,22 +11,11 @@ use guest_mem::Memory;
 use tap_ledger::Act;
 use vhost_queue::Vq;
 use vring_split::RingFault;
-use vring_turns::{End, TxStage, told_of};
+use vring_turns::{End, TxStage, closing, told_of};
 use vring_walk::{Fetched, chains_are_usable, fetch};
 
-/// The turn ends: after a publication, where anything is done.
-pub fn closing(vq: &Vq, end: End) -> TxStage
-    ensures { result ≡ tx_closing end vq.now.queue }
-{
-    if vq.unpublished() == 0 {
-        TxStage::Ended(end)
-    } else {
-        TxStage::Publish { end: Some(end) }
-    }
-}
-
-/// Notices are off again: a chain was found, or a fault.
-pub fn after_notices(vq: &Vq, fault: Option<RingFault>) -> TxStage
+// Notices are off again: a chain was found, or a fault.
+fn after_notices(vq: &Vq, fault: Option<RingFault>) -> TxStage
     ensures { result ≡ tx_after_notices vq.now.queue fault }
 {
     match fault {

@@ -1,16 +1,31 @@
 //! The bytes of a chain.
-ghost use Rattle.std.specs.Prelude.{◌≡◌, ◌↔◌, ℕ, ◌+◌, ◌≤◌, min, List, ◌++◌, take, length, IsTrue, All};
+ghost use Rattle.std.specs.Prelude.{◌≡◌, ◌↔◌, ℕ, ◌+◌, ◌≤◌, min, List, ◌++◌, take, drop, length, IfOk, IsTrue, All};
 ghost use Rattle.guest_mem.specs.Memory.{covers, bytes_from};
 ghost use Rattle.vring_walk.specs.Spread.{first_gathered};
 ghost use Rattle.vring_turns.specs.Ring.{bytes_in};
 ghost use Rattle.tap_frame.specs.Spelling.{first_case, header_in, behind_header};
+ghost use Rattle.tap_frame.specs.Text.{least_room};
 ghost use Rattle.vring_turns.specs.TransmitBytes.{is_header_size, shape_of as front_of, refusal_of};
 ghost use Rattle.vhost_tx.specs.Copying.{IsJudged};
 
-use guest_mem::{Memory, range_laws};
-use std::alloc::Global;
-use tap_frame::{BadFrame, Frame, Name, Shape, read_frame};
-use vring_walk::Segment;
+use guest_mem::{Memory, byte_laws, range_laws};
+use std::alloc::{AllocError, Global};
+use tap_frame::{BadFrame, Frame, Name, Shape, read_parts};
+use vring_walk::{Segment, spread_laws};
+
+// How many bytes of a chain are looked at behind its header: one more than the longest frame has.
+const MOST: usize = 65_536;
+
+// How many bytes segments have, or this many where they have more.
+fn count(segments: &[Segment], most: usize) -> usize
+    ensures { result ≡ min (bytes_in segments.now) most }
+{
+    let mut count = 0;
+    for segment in segments {
+        count += (segment.len as usize).min(most - count);
+    }
+    count
+}
 
 // Reads bytes from an address on into the room from a place on.
 fn read_at(mem: &Memory, addr: u64, room: &mut [u8], at: usize, len: usize)
@@ -18,26 +33,33 @@ fn read_at(mem: &Memory, addr: u64, room: &mut [u8], at: usize, len: usize)
     requires covered { IsTrue (covers mem.now.regions addr len) }
     ensures { take (at + len) room.new ≡ take at room.old ++ bytes_from mem.now.bytes addr len }
 {
+    if len == 0 {
+        return;
+    }
     match mem.read(addr, &mut room[at..at + len]) {
         Ok(()) => {}
         Err(_) => unreachable!(),
     }
 }
 
-/// Fills the room with the first bytes of segments, and tells how many there are.
-pub fn gather(mem: &Memory, segments: &[Segment], room: &mut [u8]) -> usize
-    requires { All (λ s. IsTrue (covers mem.now.regions s.addr s.len)) segments.now }
-    ensures count { result ≡ min (bytes_in segments.now) (length room.old) }
-    ensures bytes { take result room.new ≡ first_gathered (length room.old) mem.now.bytes segments.now }
+// Fills the room with the bytes of segments behind the first so many, of which there are enough.
+fn gather_behind(mem: &Memory, segments: &[Segment], skip: usize, room: &mut [u8])
+    requires covered { All (λ s. IsTrue (covers mem.now.regions s.addr s.len)) segments.now }
+    requires enough { skip + length room.old ≤ bytes_in segments.now }
+    ensures { room.new ≡ drop skip (first_gathered (skip + length room.old) mem.now.bytes segments.now) }
 {
     range_laws();
+    byte_laws();
+    let _sound = mem.regions();
+    let mut left = skip;
     let mut at = 0;
     for segment in segments {
-        let len = (segment.len as usize).min(room.len() - at);
-        read_at(mem, segment.addr, room, at, len);
+        let skipped = left.min(segment.len as usize);
+        let len = (segment.len as usize - skipped).min(room.len() - at);
+        read_at(mem, segment.addr + skipped as u64, room, at, len);
+        left -= skipped;
         at += len;
     }
-    at
 }
 
 // What stands in front of a frame in a chain: a header of this size.
@@ -46,6 +68,7 @@ fn shape_of(hdr: u16) -> Shape
     ensures case { (bytes : List ℕ) → first_case result bytes ≡ refusal_of hdr bytes }
     ensures header { (bytes : List ℕ) → header_in result bytes ≡ header_in (front_of hdr) bytes }
     ensures behind { (bytes : List ℕ) → behind_header result bytes ≡ behind_header (front_of hdr) bytes }
+    ensures least { least_room result ≡ hdr }
 {
     Shape {
         pi: false,
@@ -63,27 +86,57 @@ pub enum Judged {
     NoMemory,
 }
 
-// Whether it was for want of memory.
-fn wants_memory(bad: BadFrame) -> bool
-    ensures { IsTrue result ↔ (bad ≡ BadFrame.NoMemory) }
+// The bytes of segments behind the first so many, as many as that.
+fn bytes_behind(
+    alloc: Global,
+    mem: &Memory,
+    segments: &[Segment],
+    skip: usize,
+    len: usize,
+) -> Result<Vec<u8>, AllocError>
+    requires covered { All (λ s. IsTrue (covers mem.now.regions s.addr s.len)) segments.now }
+    requires enough { skip + len ≤ bytes_in segments.now }
+    ensures { IfOk result (λ bytes. bytes.items ≡ drop skip (first_gathered (skip + len) mem.now.bytes segments.now)) }
 {
-    bad == BadFrame::NoMemory
+    let mut bytes = vec![in alloc; 0; len]?;
+    gather_behind(mem, segments, skip, &mut bytes);
+    Ok(bytes)
 }
 
-/// The frame that the bytes of a chain spell under a name, or why they spell none.
-fn judge(alloc: Global, hdr: u16, name: Name, bytes: &[u8]) -> Judged
-    requires { IsTrue (is_header_size hdr) }
-    ensures { IsJudged hdr name bytes.now result }
+// The frame that bytes spell under a name, or why they spell none, where its header stands apart.
+fn judge_parts(hdr: u16, name: Name, front: &[u8], ether: Vec<u8>) -> Judged
+    requires size { IsTrue (is_header_size hdr) }
+    requires front { front.now ≡ take hdr (front.now ++ ether.items) }
+    ensures { IsJudged hdr name (front.now ++ ether.items) result }
 {
-    match read_frame(alloc, shape_of(hdr), name, bytes) {
+    match read_parts(shape_of(hdr), name, front, ether) {
         Ok(frame) => Judged::Accepted(frame),
-        Err(bad) => {
-            if wants_memory(bad) {
-                Judged::NoMemory
-            } else {
-                Judged::Refused(bad)
-            }
-        }
+        Err(bad) => Judged::Refused(bad),
+    }
+}
+
+// The frame that the first bytes of segments spell under a name, or why they spell none.
+fn judge(
+    alloc: Global,
+    mem: &Memory,
+    segments: &[Segment],
+    count: usize,
+    hdr: u16,
+    name: Name,
+) -> Judged
+    requires size { IsTrue (is_header_size hdr) }
+    requires covered { All (λ s. IsTrue (covers mem.now.regions s.addr s.len)) segments.now }
+    requires counted { count ≤ bytes_in segments.now }
+    ensures { IsJudged hdr name (first_gathered count mem.now.bytes segments.now) result }
+{
+    spread_laws();
+    let mut header = [0; 12];
+    let size = usize::from(hdr).min(count);
+    let front = &mut header[..size];
+    gather_behind(mem, segments, 0, front);
+    match bytes_behind(alloc, mem, segments, size, count - size) {
+        Ok(ether) => judge_parts(hdr, name, front, ether),
+        Err(_) => Judged::NoMemory,
     }
 }
 
@@ -93,25 +146,24 @@ pub struct Reading {
     pub judged: Judged,
 }
 
-/// Reads segments through the room, and judges them under a name.
+/// Reads segments, and judges them under a name.
 pub fn read_chain(
     alloc: Global,
     mem: &Memory,
     segments: &[Segment],
-    room: &mut [u8],
     hdr: u16,
     name: Name,
 ) -> Reading
     requires size { IsTrue (is_header_size hdr) }
     requires covered { All (λ s. IsTrue (covers mem.now.regions s.addr s.len)) segments.now }
-    requires room { length room.old ≡ hdr + 65536 }
     ensures counted { result.counted ≡ min (bytes_in segments.now) (hdr + 65535) }
     ensures judged { IsJudged hdr name (first_gathered (hdr + 65536) mem.now.bytes segments.now) result.judged }
 {
-    let read = gather(mem, segments, room);
+    spread_laws();
+    let count = count(segments, usize::from(hdr) + MOST);
     let most = u32::from(hdr) + 65_535;
     Reading {
-        counted: (read as u32).min(most),
-        judged: judge(alloc, hdr, name, &room[..read]),
+        counted: (count as u32).min(most),
+        judged: judge(alloc, mem, segments, count, hdr, name),
     }
 }

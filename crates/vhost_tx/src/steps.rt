@@ -9,14 +9,13 @@ ghost use Rattle.vring_turns.specs.Turn.{event_of, IfMore};
 ghost use Rattle.vhost_tx.specs.Worker.{IsSteady, Fits, Changes, state_of, out_of_memory};
 ghost use Rattle.vhost_tx.specs.Copying.{counting, holding, IsRead};
 
-use crate::fetches::closing;
 use crate::gather::{Judged, Reading, read_chain};
 use crate::worker::{TxStep, TxWorker};
 use guest_mem::Memory;
 use tap_frame::{Frame, Name};
 use tap_ledger::{Act, HostIn};
 use vhost_queue::Vq;
-use vring_turns::{End, TxStage, is_published};
+use vring_turns::{End, TxStage, closing, is_published};
 
 // What was read of a chain: its head, for how many bytes it counts, and what its bytes are.
 struct Read {
@@ -92,11 +91,10 @@ impl TxWorker {
     }
 
     // Reads the chain that was fetched, and what its bytes spell under a name.
-    fn read(&mut self, mem: &Memory, name: Name) -> Read
-        requires some { length self.old.turn.chains ≡ 1 }
-        requires lies { LieIn (covers mem.now.regions) self.old.turn.chains }
-        ensures read { IsRead self.old.turn mem.now name result.head result.counted result.judged }
-        ensures worker { self.new ≡ self.old }
+    fn read(&self, mem: &Memory, name: Name) -> Read
+        requires some { length self.now.turn.chains ≡ 1 }
+        requires lies { LieIn (covers mem.now.regions) self.now.turn.chains }
+        ensures { IsRead self.now.turn mem.now name result.head result.counted result.judged }
     {
         let head = match self.head {
             Some(head) => head,
@@ -106,7 +104,6 @@ impl TxWorker {
             self.alloc,
             mem,
             self.room.list(),
-            &mut self.buffer,
             self.hdr,
             name,
         );

@@ -21,9 +21,6 @@ use vring_walk::Segments;
 /// What a step of a transmit worker answers.
 pub type TxStep = Step;
 
-/// How many bytes of a chain are looked at behind its header: one more than the longest frame has.
-const MOST: usize = 65_536;
-
 /// A worker that makes one transmit turn.
 pub struct TxWorker {
     pub(crate) alloc: Global,
@@ -38,7 +35,6 @@ pub struct TxWorker {
     // The chain that was fetched and isn't done: its head, and its segments.
     pub(crate) head: Option<u16>,
     pub(crate) room: Segments,
-    pub(crate) buffer: Vec<u8>,
     pub(crate) held: Option<Frame>,
     pub(crate) stage: TxStage,
 }
@@ -48,11 +44,11 @@ impl Model for TxWorker {
 
     ghost Value = { Worker };
 
-    ghost use Rattle.vhost_tx.specs.Kept.{worker_of, HasBuffer};
+    ghost use Rattle.vhost_tx.specs.Kept.{worker_of, HasSize};
 
     ghost view = { worker_of };
 
-    ghost invariant = { HasBuffer };
+    ghost invariant = { HasSize };
 }
 
 impl TxWorker {
@@ -75,7 +71,6 @@ impl TxWorker {
         ensures unchanged { OnErr result (vq.new ≡ vq.old) }
     {
         let room = Segments::new(alloc)?;
-        let buffer = vec![in alloc; 0; usize::from(hdr) + MOST]?;
         let ring = vq.layout();
         let next = vq.position();
         vq.ready_turn()?;
@@ -90,7 +85,6 @@ impl TxWorker {
             accepted: 0,
             head: None,
             room,
-            buffer,
             held: None,
             stage: TxStage::Begin,
         })
@@ -179,7 +173,6 @@ impl TxWorker {
             accepted: _,
             head: _,
             room: _,
-            buffer: _,
             held,
             stage: _,
         } = self;

@@ -7,3 +7,5 @@ mod RxLines
 mod Standings
 mod RxFetches
 mod RxStandings
+mod TxEnds
+mod RxEnds

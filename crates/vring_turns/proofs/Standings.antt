@@ -32,6 +32,10 @@ pub record OrderLaws : Type 0 where
   pub done : DoneInOrder
   pub published : PublishedInOrder
 
+pub order_laws : ServesInOrder → RewindsInOrder → DoneInOrder → PublishedInOrder → OrderLaws
+order_laws serves rewinds done published =
+    record { serves = serves; rewinds = rewinds; done = done; published = published }
+
 -- What steps of both kinds have in common.
 
 pub zero_of : (n : ℕ) → nat_eq n 0 ≡ true → n ≡ 0

@@ -16,3 +16,5 @@ pub mod TxCases
 pub mod RxLine
 pub mod Publications
 pub mod Standing
+pub mod Ends
+pub mod EndExamples

@@ -1,10 +1,12 @@
--- This project's own: what a whole receive turn makes of its queue of frames.
-use Rattle.std.specs.Prelude.{◌≡◌, ◌++◌, ℕ, Bool, true, false, List, [], ◌∷◌, map, Option, None, Some, is_some}
-use Rattle.std.specs.Option.{option_to_list}
+-- This project's own: what a whole receive turn makes of its queue of frames, and what others may make of it meanwhile.
+use Rattle.std.specs.Prelude.{◌≡◌, ◌++◌, ℕ, ◌-◌, Bool, true, false, List, [], ◌∷◌, length, take, map, Option, None, Some, is_some}
+use Rattle.std.specs.Option.{option_map, option_to_list}
 use Rattle.tap_frame.specs.Frame.{FrameValue}
 use Rattle.tap_ledger.specs.declared.fate.Fate.{Fate}
-use Rattle.tap_ledger.specs.declared.fate.Fate.TheVariants.{Guest}
-use Rattle.tap_ledger.specs.Queue.{QueueState, Extends, out_with}
+use Rattle.tap_ledger.specs.declared.fate.Fate.TheVariants.{Guest, Discarded}
+use Rattle.tap_ledger.specs.declared.fate.Cause.TheVariants.{Purged}
+use Rattle.tap_ledger.specs.declared.hand.Hand.{Hand}
+use Rattle.tap_ledger.specs.Queue.{QueueState, out_with, with_handed}
 use Rattle.vhost_queue.specs.Queue.{Queue}
 use Rattle.vring_turns.specs.declared.end.End.{End}
 use Rattle.vring_turns.specs.declared.end.End.TheVariants as end
@@ -16,23 +18,53 @@ use Rattle.vring_turns.specs.RxTurn.{RxTurn, overrun}
 use Rattle.vring_turns.specs.RxRun.{RxMoment, IsRxRun, needed_by}
 use Rattle.vring_turns.specs.Hands.{Moves}
 
--- a step of a turn, with its queue of frames as it was and as it is then
-pub record LineMoment : Type 0 where
-  pub moment : RxMoment
-  pub old : QueueState
-  pub new : QueueState
+-- What happens.
 
--- between two steps others may send frames, which wait then
-pub record MayBecome (f g : QueueState) : Type 0 where
-  pub out_stays : g.out ≡ f.out
-  pub hand_stays : g.in_hand ≡ f.in_hand
-  pub known : Extends f.waiting g.waiting
+-- what another actor does to the queue between two steps: it sends a frame, which is known to wait behind the others; it
+-- purges the front one; or it cuts the newest one
+pub data Other : Type 0 where
+  Joins : FrameValue → Other
+  Purges : FrameValue → Other
+  Cuts : FrameValue → Other
+
+-- a purge waits where a frame is in hand, and a frame that is cut isn't out
+abbrev pub Does : Other → QueueState → QueueState → Type 0
+Does (Joins frame) f g =
+    (g.waiting ≡ f.waiting ++ frame ∷ []) × (g.out ≡ f.out) × (g.in_hand ≡ f.in_hand)
+Does (Purges frame) f g =
+    (f.waiting ≡ frame ∷ g.waiting) × (g.out ≡ f.out ++ out_with (Discarded Purged) frame ∷ [])
+    × (f.in_hand ≡ None) × (g.in_hand ≡ None)
+Does (Cuts frame) f g =
+    (f.waiting ≡ g.waiting ++ frame ∷ []) × (g.out ≡ f.out) × (g.in_hand ≡ f.in_hand)
+
+-- a step of the turn, with the frames that became known as it looked for one, or what another does
+pub data LineEvent : Type 0 where
+  Makes : RxMoment → List FrameValue → LineEvent
+  Meets : Other → LineEvent
+
+-- these became known behind those that were, where a frame was looked for, and elsewhere none
+abbrev pub IsKnownAt : RxStage → Hand → QueueState → QueueState → List FrameValue → Type 0
+IsKnownAt stage.Hand h f g more = with_handed h g.waiting ≡ f.waiting ++ more
+IsKnownAt other h f g more = more ≡ []
 
 -- each step moves the queue as it does at its stage
-abbrev pub AreMoves : QueueState → List LineMoment → QueueState → Type 0
-AreMoves f [] f' = MayBecome f f'
-AreMoves f (m ∷ ms) f' =
-    MayBecome f m.old × Moves m.moment.before.turn m.moment.hand m.old m.new × AreMoves m.new ms f'
+abbrev pub Happens : LineEvent → QueueState → QueueState → Type 0
+Happens (Makes m more) f g =
+    Moves m.before.turn m.hand f g × IsKnownAt m.before.turn.stage m.hand f g more
+Happens (Meets other) f g = Does other f g
+
+-- one after the other
+abbrev pub AreMoves : QueueState → List LineEvent → QueueState → Type 0
+AreMoves f [] f' = f' ≡ f
+AreMoves f (e ∷ es) f' = (g : QueueState) × Happens e f g × AreMoves g es f'
+
+-- the steps of the turn among them
+abbrev pub own_steps : List LineEvent → List RxMoment
+own_steps [] = []
+own_steps (Makes m more ∷ es) = m ∷ own_steps es
+own_steps (Meets other ∷ es) = own_steps es
+
+-- The line.
 
 -- the frame that leaves the line at a stage, with its fate
 abbrev pub with_fate : Fate → Option FrameValue → List (FrameValue × Fate)
@@ -44,10 +76,62 @@ leaves_at stage.Out t = with_fate Guest t.held
 leaves_at (stage.Discard had) t = with_fate (overrun t.mergeable (needed_by t.header t.held) had) t.held
 leaves_at other t = []
 
--- the same over steps, in their order
-abbrev pub left_by : List LineMoment → List (FrameValue × Fate)
+-- and in an event: what is purged leaves it, too
+abbrev pub left_at : LineEvent → List (FrameValue × Fate)
+left_at (Makes m more) = leaves_at m.before.turn.stage m.before.turn
+left_at (Meets (Purges frame)) = (frame, Discarded Purged) ∷ []
+left_at (Meets other) = []
+
+abbrev pub left_by : List LineEvent → List (FrameValue × Fate)
 left_by [] = []
-left_by (m ∷ ms) = leaves_at m.moment.before.turn.stage m.moment.before.turn ++ left_by ms
+left_by (e ∷ es) = left_at e ++ left_by es
+
+-- the frames of a line, those that left with them: it grows at its back, and is cut there
+abbrev pub line_at : LineEvent → List FrameValue → List FrameValue
+line_at (Makes m more) line = line ++ more
+line_at (Meets (Joins frame)) line = line ++ frame ∷ []
+line_at (Meets (Purges frame)) line = line
+line_at (Meets (Cuts frame)) line = take (length line - 1) line
+
+abbrev pub line_by : List LineEvent → List FrameValue → List FrameValue
+line_by [] line = line
+line_by (e ∷ es) line = line_by es (line_at e line)
+
+-- What is put back.
+
+-- the frames that the turn put back, the latest first
+abbrev pub back_at : RxStage → RxTurn → List FrameValue → List FrameValue
+back_at (stage.PutBack end) t back = option_to_list t.held ++ back
+back_at other t back = back
+
+abbrev pub back_by : List LineEvent → List FrameValue → List FrameValue
+back_by [] back = back
+back_by (Makes m more ∷ es) back = back_by es (back_at m.before.turn.stage m.before.turn back)
+back_by (Meets other ∷ es) back = back_by es back
+
+-- one frame was put back, of which this holds
+abbrev pub IsPutBack : (FrameValue → Type 0) → List FrameValue → Type 0
+IsPutBack P back = (frame : FrameValue) × (back ≡ frame ∷ []) × P frame
+
+-- a turn that ends as too short or stopped has put its frame back, and tells of a short one what it needs; no other has
+abbrev pub PutsBack : End → ℕ → List FrameValue → Type 0
+PutsBack (end.Short need had) size back = IsPutBack (λ frame. need_of size frame ≡ need) back
+PutsBack (end.Stopped fault) size back = IsPutBack (λ frame. Unit {0}) back
+PutsBack other size back = back ≡ []
+
+-- what is to be put back as too short is the frame in hand
+abbrev pub TellsNeed : End → RxTurn → Type 0
+TellsNeed (end.Short need had) t = needed_by t.header t.held ≡ need
+TellsNeed (end.Stopped fault) t = Unit {0}
+TellsNeed other t = ⊥
+
+-- what a stage says of the frames that were put back
+abbrev pub PutsBackAt : RxStage → RxTurn → List FrameValue → Type 0
+PutsBackAt (stage.NoticesOff (after.PutBack end)) t back = TellsNeed end t × (back ≡ [])
+PutsBackAt (stage.PutBack end) t back = TellsNeed end t × (back ≡ [])
+PutsBackAt (stage.Publish (Some end)) t back = PutsBack end t.header back
+PutsBackAt (stage.Ended end) t back = PutsBack end t.header back
+PutsBackAt other t back = back ≡ []
 
 -- a turn has a frame in hand from the step that takes it to the one that lets it out or puts it back
 abbrev pub has_frame : RxStage → Bool
@@ -57,44 +141,23 @@ has_frame (stage.Publish end) = false
 has_frame (stage.Ended end) = false
 has_frame other = true
 
--- the front frame of those that wait, of which this holds
-abbrev pub HasFront : (FrameValue → Type 0) → List FrameValue → Type 0
-HasFront P waiting = (frame : FrameValue) × (rest : List FrameValue) × (waiting ≡ frame ∷ rest) × P frame
-
--- a turn that ends as too short or stopped leaves its frame at the front, and tells of a short one what it needs
-abbrev pub LeavesFront : End → ℕ → List FrameValue → Type 0
-LeavesFront (end.Short need had) size waiting = HasFront (λ frame. need_of size frame ≡ need) waiting
-LeavesFront (end.Stopped fault) size waiting = HasFront (λ frame. Unit {0}) waiting
-LeavesFront other size waiting = Unit {0}
-
--- what is put back as too short is the frame in hand
-abbrev pub TellsNeed : End → RxTurn → Type 0
-TellsNeed (end.Short need had) t = needed_by t.header t.held ≡ need
-TellsNeed other t = Unit {0}
-
--- what a stage says of the frames that wait
-abbrev pub IsInFront : RxStage → RxTurn → List FrameValue → Type 0
-IsInFront (stage.NoticesOff (after.PutBack end)) t waiting = TellsNeed end t
-IsInFront (stage.PutBack end) t waiting = TellsNeed end t
-IsInFront (stage.Publish (Some end)) t waiting = LeavesFront end t.header waiting
-IsInFront (stage.Ended end) t waiting = LeavesFront end t.header waiting
-IsInFront other t waiting = Unit {0}
-
--- a turn holds a frame where its stage says so, and leaves it at the front where it ends so; so does one that begins
-pub record Handles (t : RxTurn) (f : QueueState) : Type 0 where
+-- a turn holds a frame where its stage says so, the one that the queue has in hand, and has put back what it says; so
+-- does one that begins, with none in hand and none put back
+pub record Handles (t : RxTurn) (f : QueueState) (back : List FrameValue) : Type 0 where
   pub holds : is_some t.held ≡ has_frame t.stage
-  pub front : IsInFront t.stage t f.waiting
+  pub in_hand : f.in_hand ≡ option_map (λ frame. frame.name) t.held
+  pub puts_back : PutsBackAt t.stage t back
 
--- the frames that left are out with their fates, in their order; they were the first ones of the line, and the frame in
--- hand and those that wait are the others, with what was sent meanwhile
-pub record PassesLine (t t' : RxTurn) (f f' : QueueState) (left : List (FrameValue × Fate)) : Type 0 where
-  pub out : f'.out ≡ f.out ++ map (λ x. out_with x.1 x.0) left
-  pub line : Extends (option_to_list t.held ++ f.waiting)
-      (map (λ x. x.0) left ++ (option_to_list t'.held ++ f'.waiting))
-  pub handles : Handles t' f'
+-- the frames that left are out with their fates, in their order; they, the frame in hand and those that wait are the
+-- line, in this order
+pub record PassesLine (t t' : RxTurn) (f f' : QueueState) (es : List LineEvent) (back : List FrameValue) : Type 0 where
+  pub out : f'.out ≡ f.out ++ map (λ x. out_with x.1 x.0) (left_by es)
+  pub line : map (λ x. x.0) (left_by es) ++ (option_to_list t'.held ++ f'.waiting)
+      ≡ line_by es (option_to_list t.held ++ f.waiting)
+  pub handles : Handles t' f' (back_by es back)
 
 -- every run does so
 abbrev pub ReceiveTurnsPass : Type 0
 ReceiveTurnsPass =
-    (t t' : RxTurn) (q q' : Queue) (f f' : QueueState) (ms : List LineMoment)
-    → Handles t f → IsRxRun t q (map (λ m. m.moment) ms) t' q' → AreMoves f ms f' → PassesLine t t' f f' (left_by ms)
+    (t t' : RxTurn) (q q' : Queue) (f f' : QueueState) (es : List LineEvent) (back : List FrameValue)
+    → Handles t f back → IsRxRun t q (own_steps es) t' q' → AreMoves f es f' → PassesLine t t' f f' es back

@@ -1,4 +1,5 @@
 //! More worked rings, as contracts of functions that do nothing.
+ghost use Rattle.vring_turns.specs.EndExamples.{TransmitEnds, ReceiveEnds, LineIsCut};
 ghost use Rattle.vring_turns.specs.RxGathering.{StillTooShort, LateChainTakesIt, OverrunAtSecondFetch, CrowdedAfterTwo, CrowdedAtSecondFetch, JustFits, QuotaOverruns, JumpStops};
 ghost use Rattle.vring_turns.specs.RxPublishing.{EnoughChains, EnoughBytesOrPackets, PublishedBy64, OverrunThenGuest, DoneThenPutBack, CutFrameGoesCut, NoCountOfBuffers, PositionsWrap};
 ghost use Rattle.vring_turns.specs.TxCases.{HaltAtSecondFetch, ChainAtSecondFetch, RefusedBetween, NoNotifyAlone, NoInterrupt, NoticeIsJudgedLast, EnoughBytes, TenBytesOfHeader, Refusals, LongIsRefused};
@@ -40,4 +41,11 @@ pub fn transmit_cases()
     ensures ten_bytes_of_header { TenBytesOfHeader }
     ensures refusals { Refusals }
     ensures long_is_refused { LongIsRefused }
+{}
+
+/// What ends turns on worked rings, and a line that others change.
+pub fn end_examples()
+    ensures transmit { TransmitEnds }
+    ensures receive { ReceiveEnds }
+    ensures line { LineIsCut }
 {}

@@ -5,6 +5,7 @@ ghost use Rattle.vring_turns.specs.RxRun.{ReceiveTurnsDo};
 ghost use Rattle.vring_turns.specs.Publications.{TransmitTurnsPublish, ReceiveTurnsPublish};
 ghost use Rattle.vring_turns.specs.RxLine.{ReceiveTurnsPass};
 ghost use Rattle.vring_turns.specs.Standing.{TransmitTurnsBegin, TransmitTurnsStand, TransmitTurnsKeepOrder, ReceiveTurnsBegin, ReceiveTurnsStand, ReceiveTurnsKeepOrder};
+ghost use Rattle.vring_turns.specs.Ends.{TransmitTurnsTell, TransmitTurnsEnd, ReceiveTurnsTell, ReceiveTurnsEnd, ReceiveTurnsAreShort};
 ghost use Rattle.vring_turns.specs.RxExamples.{TwoChainsTakeIt, OneChainIsShort, OneChainOverruns, BadTableStops, NoChainIsShort};
 
 use vhost_queue::positions_stay_in_order;
@@ -22,6 +23,8 @@ pub fn transmit_turns()
 /// What a whole receive turn did, whatever others write into the memory between its steps: packets and
 /// bytes are those of the frames that left the line; the chains into which frames were copied are published
 /// or done with the bytes that they got, in their order, behind all that was before; and no other chain is.
+/// Its queue of frames keeps its order, whatever others send, purge or cut between its steps; and a turn that
+/// ends as too short or stopped has put back the one frame that it had in hand.
 pub fn receive_turns()
     ensures chains { ReceiveTurnsDo }
     ensures publications { ReceiveTurnsPublish }
@@ -47,6 +50,28 @@ pub fn receive_standing()
     ensures begins { ReceiveTurnsBegin }
     ensures stands { ReceiveTurnsStand }
     ensures order { ReceiveTurnsKeepOrder }
+{
+    positions_stay_in_order();
+}
+
+/// Why a transmit turn ends, whatever others write into the memory between its steps: with its first answer,
+/// or with the one end that one of its steps brought about: a second fetch, after notices on, that found
+/// nothing; a fetch that found a fault; a packet with which it did as much as one turn does. Where none of
+/// them did, it goes on.
+pub fn transmit_ends()
+    ensures tell { TransmitTurnsTell }
+    ensures end { TransmitTurnsEnd }
+{}
+
+/// Why a receive turn ends, whatever others write into the memory between its steps: with its first answer,
+/// or with the one end that one of its steps brought about: a frame that wasn't ready; a second fetch, after
+/// notices on, that found nothing; a fetch that found a fault; a packet with which it did as much as one turn
+/// does. Where a fetch finds nothing, the chains are too short for the frame in hand, and fewer than it may
+/// go into.
+pub fn receive_ends()
+    ensures tell { ReceiveTurnsTell }
+    ensures end { ReceiveTurnsEnd }
+    ensures short { ReceiveTurnsAreShort }
 {
     positions_stay_in_order();
 }

@@ -1,20 +1,21 @@
 //! Turns of a device on a ring, as definitions: what a worker may do next, and what each of its steps
 //! makes of the ring, of the guest's memory and of the frames. The workers' contracts, and all that
 //! replays a turn, cite them. What code both workers have in common stands here too: how much one turn
-//! does (`limits`), and what a fetch tells (`fetches`).
+//! does (`limits`), how it closes (`close`), and what a fetch tells (`fetches`).
 //!
 //! `specs/Ring.antt` has one change of a ring for each kind of step: notices on or off, a fetch with
 //! what it found, a rewind, a publication. `specs/ReceiveImage.antt` and `specs/TransmitBytes.antt`
 //! have the copies into and out of chains. `specs/TxTurn.antt` and `specs/RxTurn.antt` put them in
 //! their order: where a turn stands, which step comes next, and when it ends. `specs/TxRun.antt` and
 //! `specs/RxRun.antt` say what a whole turn did, `specs/RxLine.antt` what it made of its queue of frames,
-//! `specs/Publications.antt` what it published, and `specs/Standing.antt` how turn and ring stand between
-//! two steps, why a turn ends, and that positions stay in order. `specs/TxExamples.antt`,
-//! `specs/TxCases.antt`, `specs/RxExamples.antt`, `specs/RxGathering.antt` and `specs/RxPublishing.antt`
-//! are worked rings.
+//! `specs/Publications.antt` what it published, `specs/Standing.antt` how turn and ring stand between two
+//! steps, and that positions stay in order, and `specs/Ends.antt` why a turn ends. `specs/TxExamples.antt`,
+//! `specs/TxCases.antt`, `specs/RxExamples.antt`, `specs/RxGathering.antt`, `specs/RxPublishing.antt` and
+//! `specs/EndExamples.antt` are worked rings.
 #![tactic(auto)]
 
 mod cases;
+mod close;
 mod end;
 mod fetches;
 mod laws;
@@ -22,12 +23,13 @@ mod limits;
 mod stage;
 mod step;
 
-pub use crate::cases::{gathering_examples, publishing_examples, transmit_cases};
+pub use crate::cases::{end_examples, gathering_examples, publishing_examples, transmit_cases};
+pub use crate::close::{Closes, closing, first_answer};
 pub use crate::end::{End, TurnEnd};
 pub use crate::fetches::{lie_in, told_of};
 pub use crate::laws::{
-    receive_examples, receive_standing, receive_turns, transmit_examples, transmit_standing,
-    transmit_turns,
+    receive_ends, receive_examples, receive_standing, receive_turns, transmit_ends,
+    transmit_examples, transmit_standing, transmit_turns,
 };
 pub use crate::limits::{is_enough, is_published};
 pub use crate::stage::{After, RxStage, TxStage};

@@ -4,16 +4,11 @@ use anyhow::{Context, Result, ensure};
 use guest_mem::Memory;
 use std::alloc::{AllocError, Global};
 use tap_frame::Name;
-use tap_ledger::{FrameQueue, HostIn, MemHost, MemQueue};
+use tap_ledger::{MemHost, MemQueue};
 use vhost_queue::Vq;
-use vhost_rx::{RxStep, RxWorker};
-use vhost_tx::{TxStep, TxWorker};
-use vring_split::RingFault;
-use vring_turns::{End, TurnEnd};
-use vring_walk::is_good;
-
-/// More steps than a turn has.
-const STEPS: u32 = 10_000;
+use vhost_rx::RxWorker;
+use vhost_tx::TxWorker;
+use vring_turns::{End, TurnEnd, first_answer};
 
 const NAME: Name = Name {
     actor: 0,
@@ -42,34 +37,6 @@ fn none(end: End) -> TurnEnd {
     }
 }
 
-// One step, where one may be made.
-fn send_step(
-    worker: &mut TxWorker,
-    vq: &mut Vq,
-    mem: &mut Memory,
-    host: &mut MemHost,
-) -> Option<TxStep> {
-    if is_good(mem, &vq.layout()) && worker.fits(vq) && worker.lies_in(mem) && host.room() > 0 {
-        Some(worker.step(vq, mem, host))
-    } else {
-        None
-    }
-}
-
-fn send_all(
-    worker: &mut TxWorker,
-    vq: &mut Vq,
-    mem: &mut Memory,
-    host: &mut MemHost,
-) -> Option<TurnEnd> {
-    for _ in 0..STEPS {
-        if let TxStep::Ended { act: _, turn } = send_step(worker, vq, mem, host)? {
-            return Some(turn);
-        }
-    }
-    None
-}
-
 // A turn to a host that takes 1,000 frames.
 fn send(alloc: Global, vq: &mut Vq, mem: &mut Memory, hdr: u16) -> Result<TurnEnd> {
     ensure!(hdr == 10 || hdr == 12, "the size of the header");
@@ -80,7 +47,7 @@ fn send(alloc: Global, vq: &mut Vq, mem: &mut Memory, hdr: u16) -> Result<TurnEn
     let mut worker = TxWorker::begin(alloc, vq, hdr, NAME)?;
     match MemHost::new(alloc, 1000) {
         Ok(mut host) => {
-            let ended = send_all(&mut worker, vq, mem, &mut host);
+            let ended = whole_turns::transmit(&mut worker, vq, mem, &mut host);
             worker.abandon();
             host.abandon();
             ended.context("a step may not be made")
@@ -94,46 +61,12 @@ fn send(alloc: Global, vq: &mut Vq, mem: &mut Memory, hdr: u16) -> Result<TurnEn
 
 /// A transmit turn of the vhost.
 pub fn transmit(alloc: Global, lab: &mut Lab) -> Result<TurnEnd> {
-    if lab.dev.backend(false).is_none() {
-        return Ok(none(End::Off));
-    }
-    if let Some(fault) = lab.dev.queue(false).stopped() {
-        return Ok(none(End::Stopped(fault)));
+    let backed = lab.dev.backend(false).is_some();
+    if let Some(end) = first_answer(backed, lab.dev.queue(false).stopped()) {
+        return Ok(none(end));
     }
     let hdr = lab.dev.hdr();
     send(alloc, lab.dev.vq(false), &mut lab.mem, hdr)
-}
-
-// One step, where one may be made.
-fn take_step(
-    worker: &mut RxWorker,
-    vq: &mut Vq,
-    queue: &mut MemQueue,
-    mem: &mut Memory,
-) -> Option<RxStep> {
-    if is_good(mem, &vq.layout())
-        && worker.fits(vq)
-        && worker.lies_in(mem)
-        && queue.in_hand() == worker.in_hand()
-    {
-        Some(worker.step(vq, queue, mem))
-    } else {
-        None
-    }
-}
-
-fn take_all(
-    worker: &mut RxWorker,
-    vq: &mut Vq,
-    queue: &mut MemQueue,
-    mem: &mut Memory,
-) -> Option<TurnEnd> {
-    for _ in 0..STEPS {
-        if let RxStep::Ended { act: _, turn } = take_step(worker, vq, queue, mem)? {
-            return Some(turn);
-        }
-    }
-    None
 }
 
 fn take(
@@ -153,18 +86,16 @@ fn take(
         "a turn is under way"
     );
     let mut worker = RxWorker::begin(alloc, vq, mergeable, hdr)?;
-    let ended = take_all(&mut worker, vq, queue, mem);
+    let ended = whole_turns::receive(&mut worker, vq, queue, mem);
     worker.abandon();
     ended.context("a step may not be made")
 }
 
 /// A receive turn of the vhost.
 pub fn receive(alloc: Global, lab: &mut Lab) -> Result<TurnEnd> {
-    if lab.dev.backend(true).is_none() {
-        return Ok(none(End::Off));
-    }
-    if let Some(fault) = lab.dev.queue(true).stopped() {
-        return Ok(none(End::Stopped(fault)));
+    let backed = lab.dev.backend(true).is_some();
+    if let Some(end) = first_answer(backed, lab.dev.queue(true).stopped()) {
+        return Ok(none(end));
     }
     let hdr = lab.dev.hdr();
     let mergeable = lab.dev.mrg();

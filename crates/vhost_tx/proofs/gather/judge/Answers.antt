@@ -1,21 +1,24 @@
-use Rattle.std.proofs.Common.{◌≡◌, Bool, false, Option, Some, None, IsTrue, sym, ap, ◌∙◌}
-use Rattle.tap_frame.specs.declared.reading.BadFrame.{BadFrame}
-use Rattle.tap_frame.specs.declared.reading.BadFrame.TheVariants.{NoMemory}
-use Rattle.tap_frame.specs.Spelling.{Refuses}
+use Rattle.std.proofs.Common.{◌≡◌, ℕ, ◌+◌, ◌-◌, ◌≤◌, rules, List, ◌++◌, length, take, drop, replicate, subst, ap, ◌∙◌, arith}
+use Rattle.vring_walk.specs.Spread.{first_gathered}
+use Rattle.vhost_tx.specs.Copying.{IsJudged}
+use Rattle.vhost_tx.proofs.Gathered.{first_parts}
 use Rattle.vhost_tx.proofs.gather.judge.Goals as goal
 
--- bytes that are refused for another reason than want of memory are refused for their first case
-refused_for :
-    (case : Option BadFrame) (bad : BadFrame) → (bad ≡ NoMemory → ⊥) → Refuses case bad → case ≡ Some bad
-refused_for None bad other is = absurd (other is)
-refused_for (Some why) bad other is = ap (λ b. Some b) (sym is)
-
--- a test has one outcome
-both : (b : Bool) → b ≡ false → IsTrue b → ⊥
-both b f t = cc
-
-pub returns-else-wants_memory : goal.returns-else-wants_memory
-returns-else-wants_memory c =
-    let other : c.in-Err.bad ≡ NoMemory → ⊥ =
-    λ e. both _ c.if-wants_memory.false (c.wants_memory.ensures.1 e) in
-    sym (c.shape_of.ensures.case c.args.bytes.now) ∙ refused_for _ _ other c.in-Err.ensures.refused
+pub returns-in-Ok : goal.returns-in-Ok
+returns-in-Ok c =
+    let k = c.min-size.result in
+    let n = c.args.count in
+    let bs = c.args.mem.now.bytes in
+    let segments = c.args.segments.now in
+    let le : k ≤ n = omega (arith, c.min-size.ensures) in
+    let sum : k + (n - k) ≡ n = omega arith in
+    let P : List ℕ → Type 0 = λ l. IsJudged c.args.hdr c.args.name l c.judge_parts.result in
+    let zeros : List ℕ = replicate 12 0 in
+    let long : 0 + length (take k zeros) ≡ 0 + k = search rules in
+    let front : c.gather_behind.new.room ≡ drop 0 (first_gathered (0 + k) bs segments) =
+    c.gather_behind.ensures ∙ ap (λ j. first_gathered j bs segments) long in
+    let ether : c.in-Ok.ether.items ≡ drop k (first_gathered n bs segments) =
+    c.in-Ok.ensures ∙ ap (λ j. drop k (first_gathered j bs segments)) sum in
+    let whole : c.gather_behind.new.room ++ c.in-Ok.ether.items ≡ first_gathered n bs segments =
+    rw (front, ether) (first_parts bs segments k n c.spread_laws.ensures.front le) in
+    subst P whole c.judge_parts.ensures

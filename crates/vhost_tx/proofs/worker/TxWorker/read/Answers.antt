@@ -4,8 +4,8 @@ use Rattle.vring_turns.specs.Ring.{Gathered}
 use Rattle.vhost_tx.specs.Kept.{chain_of}
 use Rattle.vhost_tx.proofs.worker.TxWorker.read.Goals as goal
 
-pub returns-clause-read : goal.returns-clause-read
-returns-clause-read c =
+pub returns : goal.returns
+returns c =
     let one : List Segment → List Gathered =
     λ segments. record { head = c.in-Some.head; segments = segments } ∷ [] in
     rw (← c.self.view_is) (record {
