@@ -7,6 +7,7 @@ pub mod LineSteps
 pub mod Guests
 pub mod World
 pub mod Effect
+pub mod Stands
 pub mod Causes
 pub mod StepTable
 pub mod StepRing

@@ -16,6 +16,7 @@ use Rattle.scen_words.specs.declared.command.Command.TheVariants as command
 use Rattle.tap_world.specs.Then.{◌>>=◌}
 use Rattle.tap_world.specs.Setup.{Numbered, Setup}
 use Rattle.tap_world.specs.StepTable.{is_enabled}
+use Rattle.tap_world.specs.Stands.{times}
 use Rattle.tap_world.specs.Line.{Entry, File, Standing, claimed, count, first_that, freed, in_batch, is_empty, is_kept}
 use Rattle.tap_world.specs.Line.Standing.{Batched, Claimed, Cut, Out, Ready}
 use Rattle.tap_world.specs.World.{Actor, Doing, Said, World, current, name_of, newest, table}
@@ -35,25 +36,6 @@ abbrev pub EachActor : World → (ℕ → Actor → Type 0) → Type 0
 EachActor w P = (actor : ℕ) (a : Actor) → slice_get w.actors actor ≡ Some a → P actor a
 
 -- ---- 1: names
-
-abbrev pub same_name : Name → Name → Bool
-same_name a b = a.actor == b.actor && a.turn == b.turn && a.part == b.part
-
--- how often a name stands among names, in a line, in all lines, and anywhere
-abbrev pub times_in : Name → List Name → ℕ
-times_in n [] = 0
-times_in n (m ∷ ms) = (if same_name n m then 1 else 0) + times_in n ms
-
-abbrev pub times_on : Name → List Entry → ℕ
-times_on n [] = 0
-times_on n (e ∷ es) = (if same_name n e.name then 1 else 0) + times_on n es
-
-abbrev pub times_placed : Name → List (Option File) → ℕ
-times_placed n [] = 0
-times_placed n (f ∷ fs) = option_map_or (λ (g : File). times_on n g.line) f 0 + times_placed n fs
-
-abbrev pub times : World → Name → ℕ
-times w n = times_in n w.dropped + times_in n w.hosted + times_placed n w.files
 
 -- the accepted names that an answer tells
 abbrev pub got_in : List ChainText → List Name
