@@ -22,3 +22,7 @@ mod Claiming
 mod Claims
 mod Shut
 mod Reached
+mod NamesTurns
+mod NamesRows
+mod NamesTimes
+mod NamesKept

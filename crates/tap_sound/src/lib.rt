@@ -8,6 +8,7 @@
 
 ghost use Rattle.tap_sound.specs.Kept.{ClaimsAreKept, EpochsAreKept, LinesAreKept, RoomIsKept, ShutIsKept, StandsAreKept, VersionsAreKept};
 ghost use Rattle.tap_sound.specs.Laws.{AllIsDone, EventsAreScripts, EventsBeginScripts, OrderIsRun};
+ghost use Rattle.tap_sound.specs.Names.{NamesAreKept, NamesStandAfterRuns, NamesStandInRuns};
 ghost use Rattle.tap_sound.specs.Reached.{PhaseIsKept, RunIsKept};
 ghost use Rattle.tap_sound.specs.Used.{UsedIsCounted};
 
@@ -68,4 +69,12 @@ pub fn shut_is_kept()
 pub fn run_is_kept()
     ensures whole { RunIsKept }
     ensures phase { PhaseIsKept }
+{}
+
+/// Every event keeps that each name stands at most once, and that each accepted name stands but between the event that
+/// accepts it and the one that drops, places or hosts it. So it is in each world that a run reaches.
+pub fn names_stand_once()
+    ensures kept { NamesAreKept }
+    ensures reached { NamesStandInRuns }
+    ensures ended { NamesStandAfterRuns }
 {}

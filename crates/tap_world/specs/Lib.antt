@@ -23,6 +23,7 @@ pub mod Runs
 pub mod Project
 pub mod SoundRings
 pub mod SoundActors
+pub mod SoundNames
 pub mod Sound
 pub mod Laws
 pub mod Examples
