@@ -26,3 +26,6 @@ mod NamesTurns
 mod NamesRows
 mod NamesTimes
 mod NamesKept
+mod RoomTable
+mod RoomRows
+mod RoomKept

@@ -10,6 +10,7 @@ ghost use Rattle.tap_sound.specs.Kept.{ClaimsAreKept, EpochsAreKept, LinesAreKep
 ghost use Rattle.tap_sound.specs.Laws.{AllIsDone, EventsAreScripts, EventsBeginScripts, OrderIsRun};
 ghost use Rattle.tap_sound.specs.Names.{NamesAreKept, NamesStandAfterRuns, NamesStandInRuns};
 ghost use Rattle.tap_sound.specs.Reached.{PhaseIsKept, RunIsKept};
+ghost use Rattle.tap_sound.specs.Room.{RoomIsAlwaysKept};
 ghost use Rattle.tap_sound.specs.Used.{UsedIsCounted};
 
 /// In a run the events of each actor are the scripts of its commands, one after another; on the way to its end the last
@@ -77,4 +78,9 @@ pub fn names_stand_once()
     ensures kept { NamesAreKept }
     ensures reached { NamesStandInRuns }
     ensures ended { NamesStandAfterRuns }
+{}
+
+/// Every event of a sound world keeps room in each line, also the two that change a capacity.
+pub fn room_is_always_kept()
+    ensures { RoomIsAlwaysKept }
 {}
