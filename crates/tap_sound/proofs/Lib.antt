@@ -29,3 +29,7 @@ mod NamesKept
 mod RoomTable
 mod RoomRows
 mod RoomKept
+mod FileRows
+mod HandTurns
+mod HandFiles
+mod HandKept

@@ -4,3 +4,4 @@ pub mod Used
 pub mod Reached
 pub mod Names
 pub mod Room
+pub mod Hand

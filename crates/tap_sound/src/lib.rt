@@ -6,6 +6,7 @@
 //! `proofs/Taken.antt`, which take a step apart.
 #![tactic(auto)]
 
+ghost use Rattle.tap_sound.specs.Hand.{HandIsKept, HandIsOwnersInRuns};
 ghost use Rattle.tap_sound.specs.Kept.{ClaimsAreKept, EpochsAreKept, LinesAreKept, RoomIsKept, ShutIsKept, StandsAreKept, VersionsAreKept};
 ghost use Rattle.tap_sound.specs.Laws.{AllIsDone, EventsAreScripts, EventsBeginScripts, OrderIsRun};
 ghost use Rattle.tap_sound.specs.Names.{NamesAreKept, NamesStandAfterRuns, NamesStandInRuns};
@@ -83,4 +84,11 @@ pub fn names_stand_once()
 /// Every event of a sound world keeps room in each line, also the two that change a capacity.
 pub fn room_is_always_kept()
     ensures { RoomIsAlwaysKept }
+{}
+
+/// Every event keeps that a frame in hand is the batch's front and its owner's, whose receive turn is under way. So it is
+/// in each world that a run reaches.
+pub fn hand_is_owners()
+    ensures kept { HandIsKept }
+    ensures reached { HandIsOwnersInRuns }
 {}
