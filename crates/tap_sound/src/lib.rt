@@ -1,9 +1,10 @@
 //! What is true of every run of a scenario: laws, each a function that does nothing. The statements stand in `specs/`.
 //!
 //! `specs/Laws.antt` says that a run's events are the scripts of its commands, and that nothing is left undone;
-//! `specs/Kept.antt` what each event keeps of what is sound; `specs/Reached.antt` what therefore holds in every world of
-//! a run; `specs/Used.antt` what a trace tells of published chains. The proofs begin with `proofs/Kit.antt` and
-//! `proofs/Taken.antt`, which take a step apart.
+//! `specs/Kept.antt` what each event keeps of what is sound, and `specs/Names.antt`, `specs/Hand.antt` and
+//! `specs/Room.antt` what it keeps of names, of a frame in hand and of the room in a line; `specs/Reached.antt` what
+//! therefore holds in every world of a run; `specs/Used.antt` what a trace tells of published chains. The proofs begin
+//! with `proofs/Kit.antt` and `proofs/Taken.antt`, which take a step apart.
 #![tactic(auto)]
 
 ghost use Rattle.tap_sound.specs.Hand.{HandIsKept, HandIsOwnersInRuns};
