@@ -1,6 +1,6 @@
 -- Every event keeps that a frame in hand is its owner's.
-use Rattle.std.proofs.Common.{◌≡◌, ◌≢◌, ◌⊎◌, ℕ, zero, suc, ◌+◌, List, [], ◌∷◌, map, take, Bool, true, false, Option, Some, None, inl, inr, ⊎_elim, refl, sym, ap, ◌∙◌, subst, true≢false}
-use Rattle.std.specs.Prelude.{◌==◌, ◌&&◌, ◌||◌, drop, is_some, option_map, slice_get}
+use Rattle.std.proofs.Common.{◌≡◌, ◌≢◌, ℕ, zero, suc, ◌+◌, List, [], ◌∷◌, take, Bool, true, false, Option, Some, None, inl, inr, ⊎_elim, refl, sym, ap, ◌∙◌, subst, true≢false}
+use Rattle.std.specs.Prelude.{◌==◌, ◌&&◌, ◌||◌, drop, slice_get}
 use Rattle.std.specs.List.{list_any}
 use Rattle.std.specs.Option.{option_map_or}
 use Rattle.std.proofs.Common.{eq-eqb}
@@ -16,28 +16,26 @@ use Rattle.tap_world.specs.declared.event.EventKind.{EventKind}
 use Rattle.tap_world.specs.declared.event.EventKind.TheVariants as event
 use Rattle.tap_world.specs.declared.event.Heard.{Heard}
 use Rattle.tap_world.specs.ByNumber.{at, with_at}
-use Rattle.tap_world.specs.Setup.{Declared, Numbered, Setup, script_in, setup_of}
-use Rattle.tap_world.specs.Line.{File, first_that, in_batch}
+use Rattle.tap_world.specs.Setup.{Numbered, Setup, setup_of}
+use Rattle.tap_world.specs.Line.{File}
 use Rattle.tap_world.specs.LineSteps.{Change, changed}
-use Rattle.tap_world.specs.LineSteps.Change.{Claims, Cuts, Leaves, Moves, Owned, Puts, PutsBack, Reopens, Shuts, Sizes, Takes}
+use Rattle.tap_world.specs.LineSteps.Change.{Leaves, Owned, PutsBack, Takes}
 use Rattle.tap_world.specs.World.{Actor, Doing, World, current, newest}
 use Rattle.tap_world.specs.World.Doing.{Begun, Purges, Receives}
-use Rattle.tap_world.specs.Effect.{Effect, Ending, OnFiles, Onward, actor_after, ended, files_after}
+use Rattle.tap_world.specs.Effect.{Ending, OnFiles, Onward, actor_after, ended, files_after}
 use Rattle.tap_world.specs.Effect.OnFiles.{NoFile, OnFile}
-use Rattle.tap_world.specs.Effect.Onward.{Goes}
 use Rattle.tap_world.specs.Scripts.{is_kind, next_kind}
 use Rattle.tap_world.specs.Step.{row, step}
-use Rattle.tap_world.specs.StepTransmits as tx_turns
 use Rattle.tap_world.specs.SoundActors.{CanBe, can_be}
 use Rattle.tap_world.specs.SoundRings.{is_about}
 use Rattle.tap_world.specs.Sound.{EachActor, EachFile, HandIsOwners, has_in_hand, is_receiving, is_serving}
-use Rattle.tap_world.specs.Runs.{begins, has_ended, new_file, opening, run, run_phases}
+use Rattle.tap_world.specs.Runs.{begins, has_ended, opening, run, run_phases}
 use Rattle.tap_sound.specs.Names.{IsReached}
 use Rattle.tap_sound.proofs.Kit.{some_same, then_some, where_some}
 use Rattle.tap_sound.proofs.Scripts.{effect_actors, ended_each}
 use Rattle.tap_sound.proofs.Kept.{effect_files}
 use Rattle.tap_sound.proofs.Claims.{with_at_inv}
-use Rattle.tap_sound.proofs.Stand.{begun_stands, stands_are_kept}
+use Rattle.tap_sound.proofs.Stand.{stands_are_kept}
 use Rattle.tap_sound.proofs.Whole.{begun_rest, run_rests}
 use Rattle.tap_sound.proofs.Reached.{declared, new_stands}
 use Rattle.tap_sound.proofs.Taken.{IsEnding, IsStep, both, if_some, step_is, when_settled, with_nth_get}

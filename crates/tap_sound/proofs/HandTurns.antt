@@ -1,12 +1,11 @@
 -- What the events of a receive turn do with the frame in hand.
-use Rattle.std.proofs.Common.{◌≡◌, ◌⊎◌, ℕ, List, [], ◌∷◌, Bool, true, false, Option, Some, None, inl, inr, refl, sym, ap, ◌∙◌, subst, true≢false}
-use Rattle.std.specs.Prelude.{if◌then◌else◌, ◌+◌, length}
+use Rattle.std.proofs.Common.{◌≡◌, ◌⊎◌, ℕ, List, Bool, true, false, Option, Some, None, inl, inr, refl, sym, ap, ◌∙◌, subst, true≢false}
+use Rattle.std.specs.Prelude.{◌+◌, length}
 use Rattle.tap_frame.specs.Frame.{FrameValue}
 use Rattle.tap_ledger.specs.declared.act.Act.{Act}
 use Rattle.tap_ledger.specs.declared.fate.Fate.{Fate}
 use Rattle.tap_ledger.specs.declared.fate.Fate.TheVariants as fate
 use Rattle.tap_ledger.specs.declared.hand.Hand.TheVariants as hand
-use Rattle.vring_turns.specs.declared.end.End.{End}
 use Rattle.vring_turns.specs.declared.stage.After.{After}
 use Rattle.vring_turns.specs.declared.stage.After.TheVariants as after
 use Rattle.vring_turns.specs.declared.stage.RxStage.{RxStage}
@@ -23,13 +22,12 @@ use Rattle.tap_world.specs.declared.event.Found.{Found}
 use Rattle.tap_world.specs.declared.event.Found.TheVariants as found
 use Rattle.tap_world.specs.ByNumber.{at}
 use Rattle.tap_world.specs.Setup.{Numbered, Setup}
-use Rattle.tap_world.specs.Line.{File}
 use Rattle.tap_world.specs.LineSteps.{changed}
 use Rattle.tap_world.specs.LineSteps.Change.{Leaves, PutsBack, Takes}
-use Rattle.tap_world.specs.World.{Actor, Doing, World}
+use Rattle.tap_world.specs.World.{Doing, World}
 use Rattle.tap_world.specs.World.Doing.{Receives}
 use Rattle.tap_world.specs.Effect.{Effect, OnFiles, Onward}
-use Rattle.tap_world.specs.Effect.OnFiles.{NoFile, OnFile}
+use Rattle.tap_world.specs.Effect.OnFiles.{OnFile}
 use Rattle.tap_world.specs.Effect.Onward.{Goes}
 use Rattle.tap_world.specs.Scripts.{is_kind, next_kind, rx_next_kind}
 use Rattle.tap_world.specs.Step.{row}

@@ -1,12 +1,12 @@
 -- Every event keeps room in each line.
-use Rattle.std.proofs.Common.{◌≡◌, ◌≢◌, ◌⊎◌, ℕ, ◌+◌, ◌-◌, ◌^◌, ◌≤◌, List, [], ◌∷◌, ◌++◌, map, Bool, true, false, true≢false, Option, Some, None, inl, inr, ⊎_elim, refl, sym, ap, ◌∙◌, subst, arith}
+use Rattle.std.proofs.Common.{◌≡◌, ◌⊎◌, ℕ, ◌+◌, ◌≤◌, List, [], ◌∷◌, ◌++◌, map, Bool, true, false, true≢false, Option, Some, None, inl, inr, ⊎_elim, refl, sym, ap, ◌∙◌, subst, arith}
 use Rattle.std.specs.Prelude.{if◌then◌else◌, ◌==◌, max, slice_get}
 use Rattle.std.specs.List.{AllByRecursion}
 use Rattle.std.specs.Option.{option_map_or}
 use Rattle.std.proofs.lemmas.Bool.Decides.{eqb_tells, leb_tells}
 use Rattle.tap_steer.specs.declared.operation.Op.{Op}
 use Rattle.tap_steer.specs.declared.operation.Op.TheVariants as op
-use Rattle.tap_steer.specs.Table.{Table, file_at}
+use Rattle.tap_steer.specs.Table.{Table}
 use Rattle.tap_steer.specs.After.{after, after_all}
 use Rattle.tap_world.specs.declared.event.Event.{Event}
 use Rattle.tap_world.specs.declared.event.EventKind.{EventKind}
@@ -18,21 +18,20 @@ use Rattle.tap_world.specs.Setup.{Numbered, Setup, opening_table}
 use Rattle.tap_world.specs.Line.{Entry, File, claimed, freed, is_over}
 use Rattle.tap_world.specs.LineSteps.{Change, changed}
 use Rattle.tap_world.specs.LineSteps.Change.{Sizes}
-use Rattle.tap_world.specs.World.{Actor, Doing, Published, World, current, holds_writer, table}
+use Rattle.tap_world.specs.World.{Actor, Doing, Published, World, holds_writer, table}
 use Rattle.tap_world.specs.World.Doing.{Begun, Resizes, Shrinks}
-use Rattle.tap_world.specs.Effect.{Effect, OnFiles, files_after}
+use Rattle.tap_world.specs.Effect.{OnFiles, files_after}
 use Rattle.tap_world.specs.Effect.OnFiles.{NoFile, OnFile}
 use Rattle.tap_world.specs.Scripts.{is_kind, next_kind, shrink_next}
 use Rattle.tap_world.specs.Step.{row, step}
-use Rattle.tap_world.specs.SoundActors.{CanBe, can_be}
-use Rattle.tap_world.specs.Sound.{Agreed, EachFile, HasRoom, IsSound, asked, capacity_before, expected, has_left, has_of, of_table, writer_of, writing}
+use Rattle.tap_world.specs.SoundActors.{can_be}
+use Rattle.tap_world.specs.Sound.{Agreed, EachFile, HasRoom, IsSound, asked, capacity_before, expected, has_left, of_table, writing}
 use Rattle.tap_sound.specs.Kept.{IsOrdered, leaves_sizes}
 use Rattle.tap_world.specs.Then.{◌>>=◌}
-use Rattle.tap_sound.proofs.Kit.{only_some, some_same, then_some, where_some}
+use Rattle.tap_sound.proofs.Kit.{only_some, some_same, where_some}
 use Rattle.tap_sound.proofs.Kept.{effect_files, effect_ops, room_is_kept, same_table, step_keeps}
-use Rattle.tap_sound.proofs.Files.{course, course_ordered}
 use Rattle.tap_sound.proofs.Taken.{IsStep, step_is, when_settled}
-use Rattle.tap_sound.proofs.RoomTable.{IsNoResize, resize_elsewhere, same_after}
+use Rattle.tap_sound.proofs.RoomTable.{resize_elsewhere, same_after}
 use Rattle.tap_sound.proofs.RoomRows.{Publishes, Resizing, SizesBy, publish_is, resize_is}
 
 -- ---- a publication

@@ -1,7 +1,6 @@
 -- What a publication publishes, and what a resize changes.
-use Rattle.std.proofs.Common.{◌≡◌, ◌⊎◌, ℕ, ◌+◌, List, [], ◌∷◌, Bool, true, false, Option, Some, None, ⊎_elim, refl, sym, ap, ◌∙◌, subst, true≢false}
-use Rattle.std.specs.Prelude.{if◌then◌else◌, ◌==◌, ◌&&◌, is_none}
-use Rattle.std.specs.Option.{option_map_or}
+use Rattle.std.proofs.Common.{◌≡◌, ℕ, ◌+◌, [], ◌∷◌, true, Some, None, ⊎_elim, refl, sym, ap, ◌∙◌, subst, true≢false}
+use Rattle.std.specs.Prelude.{◌==◌, ◌&&◌, is_none}
 use Rattle.std.proofs.lemmas.Bool.Decides.{eqb_tells}
 use Rattle.tap_flow_key.specs.FlowKey.{hash}
 use Rattle.tap_steer.specs.declared.operation.Op.{Op}
@@ -15,7 +14,7 @@ use Rattle.tap_world.specs.Setup.{Setup, op_of}
 use Rattle.tap_world.specs.LineSteps.Change.{Sizes}
 use Rattle.tap_world.specs.World.{Doing, World, holds_writer, newest, table}
 use Rattle.tap_world.specs.World.Doing.{Backed, Changes, Disowned, Learns, Opened, Owns, Released, Resizes, Shrinks, Teaches, Transmits, Withdraws}
-use Rattle.tap_world.specs.Effect.{Effect, OnFiles, only}
+use Rattle.tap_world.specs.Effect.{Effect, only}
 use Rattle.tap_world.specs.Effect.OnFiles.{NoFile, OnFile}
 use Rattle.tap_world.specs.Effect.Onward.{Goes}
 use Rattle.tap_world.specs.Step as rows
@@ -24,9 +23,8 @@ use Rattle.tap_world.specs.StepRing as ring
 use Rattle.tap_world.specs.StepTable as tables
 use Rattle.tap_world.specs.StepTransmits as tx_turns
 use Rattle.tap_world.specs.SoundActors.{attaches, can_be, changes, detaches, resizes}
-use Rattle.tap_sound.proofs.Kit.{WhereSome, either, some_same, then_some, where_if, where_only, where_then}
+use Rattle.tap_sound.proofs.Kit.{WhereSome, either, some_same, where_if, where_only, where_then}
 use Rattle.tap_sound.proofs.Steps.{publication}
-use Rattle.tap_sound.proofs.Taken.{if_some}
 use Rattle.tap_sound.proofs.RoomTable.{IsNoResize}
 
 -- ---- which operation a command has

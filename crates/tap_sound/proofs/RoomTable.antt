@@ -1,5 +1,5 @@
 -- Which operations change the capacity that the table has of a file.
-use Rattle.std.proofs.Common.{◌≡◌, ◌≢◌, ◌⊎◌, ℕ, zero, suc, ◌+◌, List, [], ◌∷◌, Bool, true, false, Option, Some, None, inl, inr, ⊎_elim, refl, sym, ap, ◌∙◌, subst, arith}
+use Rattle.std.proofs.Common.{◌≡◌, ◌≢◌, ℕ, zero, suc, List, [], ◌∷◌, Bool, true, false, Option, Some, None, refl, ap}
 use Rattle.std.specs.Prelude.{if◌then◌else◌, slice_index_or, slice_set}
 use Rattle.tap_ledger.specs.declared.side.Side.{Side}
 use Rattle.tap_ledger.specs.declared.side.Side.TheVariants.{Rx, Tx}
@@ -11,7 +11,7 @@ use Rattle.tap_steer.specs.declared.operation.Op.TheVariants as op
 use Rattle.tap_steer.specs.declared.operation.TheConstants.{IFF_ATTACH_QUEUE}
 use Rattle.tap_steer.specs.declared.settings.Settings.{Settings}
 use Rattle.tap_steer.specs.Table.{Table, device_of, file_at, is_set, new_file, with_file}
-use Rattle.tap_steer.specs.After.{after, attach_queue, back, backed, detach_queue, disabled, enabled, learn, learn_at, left, resize, resized, set_at, set_device, set_iff, set_queue, shut, tick}
+use Rattle.tap_steer.specs.After.{after, attach_queue, back, backed, detach_queue, disabled, enabled, learn, learn_at, left, resize, resized, set_at, set_device, set_iff, shut, tick}
 use Rattle.tap_world.specs.Sound.{capacity_before}
 
 -- the file of a number, where another one is set in the place of one

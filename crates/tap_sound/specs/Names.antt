@@ -14,9 +14,11 @@ use Rattle.tap_world.specs.SoundNames.{NamesStandOnce}
 -- accepts it and the event that drops, places or hosts it.
 abbrev pub NamesAreKept : Type 0
 NamesAreKept =
-    (s : Setup) (w : World) (e : Event) (u : World × Heard) → step s w e ≡ Some u → NamesStandOnce w → NamesStandOnce u.0
+    (s : Setup) (w : World) (e : Event) (u : World × Heard) → step s w e ≡ Some u
+    → NamesStandOnce w → NamesStandOnce u.0
 
--- a world that a run of a scenario reaches: so many of its phases have ended, and of the next one there were some events
+-- a world that a run of a scenario reaches: so many of its phases have ended, and of the next one there were some
+-- events
 pub record IsReached (s : Scenario) (w : World) : Type 0 where
   pub ended : ℕ
   pub events : List (List Event)

@@ -7,8 +7,8 @@ use Rattle.tap_world.specs.World.{World, table}
 use Rattle.tap_world.specs.Step.{step}
 use Rattle.tap_world.specs.Sound.{EachFile, HasRoom, IsSound, capacity_before}
 
--- Every event of a sound world keeps room in each line: also a resize, whose capacity is compared with the one before until
--- it is published, and the publications.
+-- Every event of a sound world keeps room in each line: also a resize, whose capacity is compared with the one before
+-- until it is published, and the publications.
 abbrev pub RoomIsAlwaysKept : Type 0
 RoomIsAlwaysKept =
     (s : Setup) (w : World) (e : Event) (u : World × Heard) → step s w e ≡ Some u → IsSound s w

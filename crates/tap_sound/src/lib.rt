@@ -87,8 +87,8 @@ pub fn room_is_always_kept()
     ensures { RoomIsAlwaysKept }
 {}
 
-/// Every event keeps that a frame in hand is the batch's front and its owner's, whose receive turn is under way. So it is
-/// in each world that a run reaches.
+/// Every event keeps that a frame in hand is the batch's front and its owner's, whose receive turn is under way. So it
+/// is in each world that a run reaches.
 pub fn hand_is_owners()
     ensures kept { HandIsKept }
     ensures reached { HandIsOwnersInRuns }
