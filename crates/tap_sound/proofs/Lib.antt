@@ -22,3 +22,5 @@ mod Claiming
 mod Claims
 mod Shut
 mod Reached
+mod Shapes
+mod ShapeRows

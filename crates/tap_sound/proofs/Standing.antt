@@ -116,7 +116,7 @@ reading w file room front = go (nat_lt room (least_in front))
     go true = tt
     go false = itself file
 
-back_seen : (w : World) (actor vhost r : ℕ) (v : Vhost) (file : Option ℕ) (x : Option TapText) → To (command.Backend vhost r file) (back.back_seen w actor vhost r v x)
+back_seen : (w : World) (actor vhost r : ℕ) (v : Vhost) (file : ℕ) (x : Option TapText) → To (command.Backend vhost r (Some file)) (back.back_seen w actor vhost r v x)
 back_seen w actor vhost r v file None = refl
 back_seen w actor vhost r v file (Some x) = refl
 
@@ -161,9 +161,12 @@ look_row s w actor a n (command.Read file room) = with_front w (command.Read fil
 look_row s w actor a n (command.Write file bytes) = with_front w (command.Write file bytes) (steer.shape_of (table s w) file) (tables.writes (table s w) w file bytes)
     (λ front. unless_bad w (command.Write file bytes) (bad_in front bytes)
     (only (Goes (newest w) (Hosts file (ether_in front bytes) (steer.learns (table s w) file)) (found.Version (newest w))) w) (itself file))
-look_row s w actor a n (command.Backend vhost r file) =
-    where_then (To (command.Backend vhost r file)) (at w.vhosts vhost) _ (λ v e. where_only (To (command.Backend vhost r file)) (is_none w.writer && (not (is_ring r) || is_none (turn_of r v)))
-    (back.back_seen w actor vhost r v (back.back_refusal (table s w) vhost r file)) (λ e. back_seen w actor vhost r v file _))
+look_row s w actor a n (command.Backend vhost r None) =
+    where_then (To (command.Backend vhost r None)) (at w.vhosts vhost) _ (λ v e. where_only (To (command.Backend vhost r None)) (is_none w.writer && (not (is_ring r) || is_none (turn_of r v)))
+    (back.back_seen w actor vhost r v (back.back_refusal (table s w) vhost r None)) (λ e. refl))
+look_row s w actor a n (command.Backend vhost r (Some file)) =
+    where_then (To (command.Backend vhost r (Some file))) (at w.vhosts vhost) _ (λ v e. where_only (To (command.Backend vhost r (Some file))) (is_none w.writer && (not (is_ring r) || is_none (turn_of r v)))
+    (back.back_seen w actor vhost r v (back.back_refusal (table s w) vhost r (Some file))) (λ e. back_seen w actor vhost r v file _))
 look_row s w actor a n (command.TxTurn vhost) = flow s w vhost a.doing
 look_row s w actor a n c = tt
 

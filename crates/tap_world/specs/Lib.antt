@@ -22,6 +22,7 @@ pub mod Runs
 pub mod Project
 pub mod SoundRings
 pub mod SoundActors
+pub mod SoundTable
 pub mod Sound
 pub mod Laws
 pub mod Examples
