@@ -1,6 +1,6 @@
 -- What an event changes has one of few shapes: all rows.
 use Rattle.std.proofs.Common.{◌≡◌, ℕ, ◌+◌, List, [], ◌∷◌, Bool, true, false, Option, Some, None, refl, ◌⊎◌, inl, inr, sym, ap, ◌∙◌, subst, true≢false}
-use Rattle.std.specs.Prelude.{if◌then◌else◌, ◌==◌, ◌&&◌, ◌||◌, is_none, nat_lt, slice_get, not}
+use Rattle.std.specs.Prelude.{if◌then◌else◌, ◌==◌, ◌&&◌, ◌||◌, is_none, is_some, nat_lt, slice_get, not}
 use Rattle.std.specs.Option.{option_map_or}
 use Rattle.guest_mem.specs.Memory.{Contents}
 use Rattle.tap_frame.specs.declared.name.Name.{Name}
@@ -22,7 +22,7 @@ use Rattle.tap_world.specs.Frames.{Front, bad_in, ether_in, least_in, sent_bytes
 use Rattle.vhost_dev.specs.Refusals.{number_refusal}
 use Rattle.vhost_dev.specs.Settings.{ring_at, hdr_of}
 use Rattle.tap_world.specs.Setup.{Setup, op_of}
-use Rattle.tap_world.specs.Line.{File, claimed, first_that, front_place, in_batch, in_ring, last_that}
+use Rattle.tap_world.specs.Line.{File, claimed, has_batch, is_full, is_gone, is_over, is_spent, first_that, front_place, in_batch, in_ring, last_that}
 use Rattle.tap_world.specs.LineSteps.{ready_front, changed}
 use Rattle.tap_world.specs.Guests.{Vhost, is_free, is_ring, turn_of, Guest}
 use Rattle.tap_steer.specs.Rules.{refuse}
@@ -49,7 +49,7 @@ use Rattle.tap_world.specs.SoundActors.{can_be, is_rx_turn, is_tx_turn}
 use Rattle.tap_sound.proofs.Taken.{both}
 use Rattle.tap_sound.proofs.Follows.{at_file_kind}
 use Rattle.tap_sound.proofs.Shapes.{Alike, Leaves, RxWay, Shape, TxWay}
-use Rattle.tap_sound.proofs.Shapes.Shape.{BackDrives, BackPublishes, BackTakes, Calling, Learning, Owning, Publishing, Quiet, Reopening, RxTurning, Shutting, Sizing, Takes, Touching, Trims, TxTurning, Withdrawing}
+use Rattle.tap_sound.proofs.Shapes.Shape.{BackDrives, BackPublishes, BackApproves, Calling, Learning, Owning, Publishing, Quiet, Reopening, RxTurning, Shutting, Sizing, Approves, Touching, Trims, TxTurning, Withdrawing}
 use Rattle.tap_ledger.specs.declared.hand.Hand.TheVariants as hand
 use Rattle.vring_turns.specs.declared.stage.RxStage.TheVariants as rx
 use Rattle.scen_words.specs.declared.command.Command.TheVariants as command
@@ -66,7 +66,7 @@ use Rattle.tap_world.specs.StepTransmits as tx_turns
 use Rattle.tap_steer.specs.declared.selection.Select.TheVariants as select
 use Rattle.tap_steer.specs.Select as steer
 use Rattle.vring_turns.specs.declared.stage.TxStage.TheVariants as tx
-use Rattle.tap_world.specs.LineSteps.Change as file_steps
+use Rattle.tap_world.specs.LineSteps.Change.{Takes}
 use Rattle.tap_world.specs.declared.event.Found.TheVariants as found
 
 abbrev pub AllShaped : Setup → World → ℕ → ℕ → Doing → Command → Option Effect → Type 0
@@ -99,18 +99,36 @@ peek_begun d guest addr len e = absurd (true≢false (sym e))
 abbrev NoLook : EventKind → Type 0
 NoLook k = (kind_number k == 0) ≡ false
 
+no_of_two : (k l : EventKind) → NoLook k → NoLook l → (a : Bool) → NoLook (if a then k else l)
+no_of_two k l x y true = x
+no_of_two k l x y false = y
+
+no_of_four : (k l m n : EventKind) → NoLook k → NoLook l → NoLook m → NoLook n → (a b c : Bool) → NoLook (if a then k else if b then l else if c then m else n)
+no_of_four k l m n x y z u true b c = x
+no_of_four k l m n x y z u false true c = y
+no_of_four k l m n x y z u false false true = z
+no_of_four k l m n x y z u false false false = u
+
 no_send : (epoch : ℕ) (f : File) → NoLook (send_next epoch f)
-no_send epoch f = either NoLook _ _ _ refl (either NoLook _ _ _ refl (either NoLook _ _ _ refl refl))
+no_send epoch f = no_of_four event.Gone event.Spent event.Full event.Claim refl refl refl refl (is_gone epoch f) (is_spent f) (is_full f)
 
 no_read : (f : File) → NoLook (read_next f)
-no_read f = either NoLook _ _ _ refl (either NoLook _ _ _ refl (either NoLook _ _ _ refl refl))
+no_read f = no_of_four event.Owner event.Out event.Move event.NotReady refl refl refl refl (is_some f.owner) (has_batch f) (is_some (ready_front f.line))
 
 rx_no_look : (w : World) (file : ℕ) (st : RxStage) → is_kind event.Look (rx_next_kind w file st) ≡ true → ⊥
-rx_no_look w file rx.Hand e = true≢false (at_file_kind NoLook (at w.files file) hand_next event.Look e (λ f. either NoLook _ event.Hand event.NotReady refl refl))
+rx_no_look w file rx.Hand e = true≢false (at_file_kind NoLook (at w.files file) hand_next event.Look e (λ f. no_of_two event.Hand event.NotReady refl refl (has_batch f || is_some (ready_front f.line))))
 rx_no_look w file st e = true≢false (sym e)
 
 tx_no_look : (st : TxStage) → is_kind event.Look (tx_next_kind st) ≡ true → ⊥
-tx_no_look st e = true≢false (sym e)
+tx_no_look tx.Begin e = true≢false (sym e)
+tx_no_look tx.Fetch e = true≢false (sym e)
+tx_no_look tx.NoticesOn e = true≢false (sym e)
+tx_no_look tx.FetchAgain e = true≢false (sym e)
+tx_no_look (tx.NoticesOff fault) e = true≢false (sym e)
+tx_no_look tx.Copy e = true≢false (sym e)
+tx_no_look tx.Give e = true≢false (sym e)
+tx_no_look (tx.Publish end) e = true≢false (sym e)
+tx_no_look (tx.Ended end) e = true≢false (sym e)
 
 abbrev IsGiven : Doing → Type 0
 IsGiven (Given file t told f) = Unit {0}
@@ -120,9 +138,9 @@ look_from : (w : World) (d : Doing) (c : Command) → is_kind event.Look (next_k
 look_from w Begun c e = inl refl
 look_from w (Given file t told f) c e = inr tt
 look_from w (Purges file version) c e =
-    absurd (true≢false (at_file_kind NoLook (at w.files file) purge_next event.Look e (λ f. either NoLook _ event.Out event.Move refl refl)))
+    absurd (true≢false (at_file_kind NoLook (at w.files file) purge_next event.Look e (λ f. no_of_two event.Out event.Move refl refl (has_batch f))))
 look_from w (Shrinks file places cuts) c e =
-    absurd (true≢false (at_file_kind NoLook (at w.files file) shrink_next event.Look e (λ f. either NoLook _ event.Cut event.Publish refl refl)))
+    absurd (true≢false (at_file_kind NoLook (at w.files file) shrink_next event.Look e (λ f. no_of_two event.Cut event.Publish refl refl (is_over f))))
 look_from w (Routed file epoch len) c e =
     absurd (true≢false (at_file_kind NoLook (at w.files file) (send_next epoch) event.Look e (no_send epoch)))
 look_from w (Reads file room front) c e =
@@ -149,13 +167,13 @@ module _ (s : Setup) (w : World) (me seen : ℕ) (d : Doing) (c : Command) where
 
   approved : (x : Op) (o : Option TapErr) → d ≡ Begun → op_of s c ≡ Some x → w.writer ≡ None → refuse (table s w) x ≡ o
       → Shape s w me seen d c (tables.approved w me (tables.course (table s w) x) o)
-  approved x None is of free no_ = Takes x is of free no_ refl
+  approved x None is of free no_ = Approves x is of free no_ refl
   approved x (Some r) is of free no_ = Quiet refl tt refl refl refl (ends d is)
 
   routed : (name : Name) (x : Select) → d ≡ Begun → Shape s w me seen d c (tables.routed w name x)
   routed name select.NoQueue is = Quiet refl tt refl refl refl (ends d is)
   routed name select.Filtered is = Quiet refl tt refl refl refl (ends d is)
-  routed name (select.Row row keep resizes capacity) is = Quiet refl tt refl refl refl (goes d _ is refl refl refl)
+  routed name (select.Row row keep resizes capacity) is = Quiet refl tt refl refl refl (goes d (Routed row.file row.epoch keep) is refl refl refl)
 
   unless_bad : (x : Option BadFrame) (r : Effect) → d ≡ Begun → Shape s w me seen d c r → Shape s w me seen d c (tables.unless_bad x w r)
   unless_bad None r is h = h
@@ -197,7 +215,7 @@ looks_at s w me seen d name c is = tt
 back_seen : (s : Setup) (w : World) (me seen : ℕ) (d : Doing) (vhost r : ℕ) (file : Option ℕ) (v : Vhost) (o : Option TapText) → d ≡ Begun
     → at w.vhosts vhost ≡ Some v → w.writer ≡ None → (not (is_ring r) || is_none (turn_of r v)) ≡ true → back.back_refusal (table s w) vhost r file ≡ o
     → Shape s w me seen d (command.Backend vhost r file) (back.back_seen w me vhost r v o)
-back_seen s w me seen d vhost r file v None is at_ free turn no_ = BackTakes vhost r file v is refl at_ free turn no_ refl
+back_seen s w me seen d vhost r file v None is at_ free turn no_ = BackApproves vhost r file v is refl at_ free turn no_ refl
 back_seen s w me seen d vhost r file v (Some x) is at_ free turn no_ = Quiet refl tt refl refl refl (goes d (Backs (Some x)) is refl refl refl)
 
 looks_at_flow : (s : Setup) (w : World) (me seen : ℕ) (d : Doing) (c : Command) → AllShaped s w me seen d c (tx_turns.looks_at_flow s w d)
@@ -417,7 +435,7 @@ turns s w me n seen d c can = going s w me seen d c can
 hands : (s : Setup) (w : World) (me seen : ℕ) (d : Doing) (c : Command) → can_be d c ≡ true → AllShaped s w me seen d c (tx_turns.hands s w me seen d c)
 hands s w me seen (Receives file t) (command.RxTurn vhost) can = let P = Shape s w me seen (Receives file t) (command.RxTurn vhost) in
     where_then P (at w.vhosts vhost) _ (λ v a. where_then P (at w.guests v.guest) _ (λ g b. where_then P (at w.files file) _
-    (λ f e1. where_then P (changed (file_steps.Takes vhost) f) _ (λ h e2. where_then P (rx_turns.front_frame s h) _
+    (λ f e1. where_then P (changed (Takes vhost) f) _ (λ h e2. where_then P (rx_turns.front_frame s h) _
     (λ frame e3. where_then P (rx_step (hand.Got frame) (rx_turns.rx_state t v g.memory)) _
     (λ made e. RxTurning vhost file t v g (hand.Got frame) made _ _ refl a b (inl refl) e tt refl))))))
 hands s w me seen (Receives file t) c can = absurd (true≢false (sym can))

@@ -74,9 +74,9 @@ TxWay d file t told v =
 pub data Shape (s : Setup) (w : World) (me seen : ℕ) (d : Doing) (c : Command) (r : Effect) : Type 0 where
   Quiet : r.ops ≡ [] → Leaves r.files → r.guests ≡ NoGuest → r.vhosts ≡ NoVhost → r.writer ≡ w.writer → Alike d r.onward → Shape s w me seen d c r
   Trims : (file n m k : ℕ) (f : Found) → d ≡ Shrinks file n m → on_file file Cuts (Goes seen (Shrinks file n k) f) w ≡ r → Shape s w me seen d c r
-  Takes : (x : Op) → d ≡ Begun → op_of s c ≡ Some x → w.writer ≡ None → refuse (table s w) x ≡ None
+  Approves : (x : Op) → d ≡ Begun → op_of s c ≡ Some x → w.writer ≡ None → refuse (table s w) x ≡ None
       → tables.approved w me (tables.course (table s w) x) None ≡ r → Shape s w me seen d c r
-  BackTakes : (vhost ring : ℕ) (file : Option ℕ) (v : Vhost) → d ≡ Begun → c ≡ command.Backend vhost ring file → at w.vhosts vhost ≡ Some v
+  BackApproves : (vhost ring : ℕ) (file : Option ℕ) (v : Vhost) → d ≡ Begun → c ≡ command.Backend vhost ring file → at w.vhosts vhost ≡ Some v
       → w.writer ≡ None → (not (is_ring ring) || is_none (turn_of ring v)) ≡ true → back.back_refusal (table s w) vhost ring file ≡ None
       → back.back_seen w me vhost ring v None ≡ r → Shape s w me seen d c r
   Reopening : (file : ℕ) (f : File) → d ≡ Opens file → at w.files file ≡ Some f
