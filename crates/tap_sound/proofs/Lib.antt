@@ -24,3 +24,4 @@ mod Shut
 mod Reached
 mod Shapes
 mod ShapeRows
+mod Turned
