@@ -25,3 +25,4 @@ mod Reached
 mod Shapes
 mod ShapeRows
 mod Turned
+mod Writers

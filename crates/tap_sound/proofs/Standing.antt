@@ -272,13 +272,13 @@ calls w actor seen c =
     where_then (To c) (control.vhost_of c) _ (λ vhost e1. where_then (To c) (at w.vhosts vhost) _ (λ v e2. where_then (To c) (at w.guests v.guest) _
     (λ g e3. where_then (To c) (control.call_of c v g.memory) _ (λ x e4. where_only (To c) _ (control.call_effect w seen vhost v.guest x) (λ y. tt)))))
 
-ring_there : (ring : ℕ) → nat_le 2 ring ≡ false → is_ring ring ≡ true
+pub ring_there : (ring : ℕ) → nat_le 2 ring ≡ false → is_ring ring ≡ true
 ring_there ring e = ⊎_elim (λ t. absurd (true≢false (sym t.0 ∙ e))) (λ t. ⊎_elim (λ h. h.0) (λ h. absurd (over t.1 h.1)) (leb_tells (suc ring) 2)) (leb_tells 2 ring)
   where
     over : ring < 2 → 2 < suc ring → ⊥
     over a b = omega (arith, a, b)
 
-first_passed : (b : Bool) (e : VhostErr) (rest : Option VhostErr) → (if b then Some e else rest) ≡ None → b ≡ false
+pub first_passed : (b : Bool) (e : VhostErr) (rest : Option VhostErr) → (if b then Some e else rest) ≡ None → b ≡ false
 first_passed true e rest h = absurd (cc (h))
 first_passed false e rest h = refl
 
@@ -297,7 +297,7 @@ unsets_back w actor seen vhost r v m None (Some file) h = go (r == 0) refl
     go true is = and_both (is_ring r) (r == 0) (h refl) is
     go false is = and_both (is_ring r) (not (r == 0)) (h refl) (ap not is)
 
-answered : (o : Option VhostErr) (x : Option TapText) (u : Option VhostErr) → back.back_answer o x u ≡ None → (o ≡ None) × (x ≡ None)
+pub answered : (o : Option VhostErr) (x : Option TapText) (u : Option VhostErr) → back.back_answer o x u ≡ None → (o ≡ None) × (x ≡ None)
 answered None None u e = (refl, refl)
 answered None (Some x) u e = absurd (cc (e))
 answered (Some e) x u h = absurd (cc (h))
