@@ -26,3 +26,5 @@ mod Shapes
 mod ShapeRows
 mod Turned
 mod Writers
+mod Calls
+mod Turns
