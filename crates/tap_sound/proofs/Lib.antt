@@ -28,3 +28,4 @@ mod Turned
 mod Writers
 mod Calls
 mod Turns
+mod Held

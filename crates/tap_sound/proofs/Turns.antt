@@ -25,7 +25,7 @@ use Rattle.tap_world.specs.Guests.{with_queue, Guest, Vhost, is_free, is_free_fo
 use Rattle.tap_world.specs.Setup.{Numbered, Setup}
 use Rattle.tap_world.specs.World.{Actor, Doing, World, current, newest, table}
 use Rattle.tap_world.specs.World.Doing.{Backed, Backs, Begun, Changes, Disowned, Opened, Owns, Receives, Released, Shrinks, Transmits, Unbacked}
-use Rattle.tap_world.specs.Effect.{Effect, OnVhosts, Onward, actor_after, files_after, guests_after, vhosts_after, with_effect}
+use Rattle.tap_world.specs.Effect.{Effect, OnVhosts, Onward, actor_after, ended, files_after, guests_after, vhosts_after, with_effect}
 use Rattle.tap_world.specs.Effect.OnVhosts.{NoVhost, OnVhost}
 use Rattle.tap_world.specs.Effect.Onward.{Ends, Goes, Stays}
 use Rattle.tap_world.specs.StepBackend as back
@@ -309,3 +309,140 @@ turning s w me seen d c r can (TxTurning vhost file t told v g made cis a b way 
     subst (λ (q : Command). Turning w me d q r) (sym cis)
     (subst (Turning w me d (command.TxTurn vhost)) eq (Moved vhost 1 v _ (if is_some (tx_turns.tx_over made.0.turn.stage) then None else Some me) refl a (omega arith) (λ v0 r0. refl)
     (λ r0. refl) (tx_turned me seen file d t made.0.turn told _ _ v way (tx_turns.tx_over made.0.turn.stage))))
+
+-- ---- the world after it
+
+pub effect_vhosts : (r : Effect) (actor : ℕ) (a : Actor) (n : ℕ) (w v : World) → with_effect r actor a n w ≡ Some v → v.vhosts ≡ vhosts_after r.vhosts w.vhosts
+effect_vhosts r actor a n w v e =
+    let f = then_some (files_after r.files w.files) _ v e in
+    let g = then_some (guests_after actor n r.guests w.guests) _ v f.2 in
+    ap (λ (x : World). x.vhosts) (sym (some_same _ v g.2))
+
+-- what an actor holds of a ring
+abbrev pub held : ℕ → ℕ → Actor → Bool
+held vhost ring a = holds_turn a.doing && is_about vhost ring (current a.script)
+
+held_before : (vhost ring : ℕ) (a : Actor) (n : Numbered) → slice_get a.script 0 ≡ Some n → held vhost ring a ≡ (holds_turn a.doing && about vhost ring n.command)
+held_before vhost ring a n at_ = ap (λ (o : Option Numbered). holds_turn a.doing && is_about vhost ring o) at_
+
+held_after : (vhost ring : ℕ) (a : Actor) (n : Numbered) (o : Onward) → slice_get a.script 0 ≡ Some n
+    → held vhost ring (actor_after o a) ≡ (holds_turn (doing_after o a.doing) && about vhost ring n.command)
+held_after vhost ring a n (Goes seen e f) at_ = ap (λ (q : Option Numbered). holds_turn e && is_about vhost ring q) at_
+held_after vhost ring a n (Ends seen x) at_ = refl
+held_after vhost ring a n (Stays f) at_ = ap (λ (q : Option Numbered). holds_turn a.doing && is_about vhost ring q) at_
+
+same_turn : (u v : Vhost) → u.rx_turn ≡ v.rx_turn → u.tx_turn ≡ v.tx_turn → (ring : ℕ) → turn_of ring u ≡ turn_of ring v
+same_turn u v a b ring = go (ring == 0)
+  where
+    go : (t : Bool) → (if t then u.rx_turn else u.tx_turn) ≡ (if t then v.rx_turn else v.tx_turn)
+    go true = a
+    go false = b
+
+-- of each ring after the event
+abbrev TurnedAt : World → ℕ → Doing → Command → Effect → ℕ → ℕ → Vhost → Vhost → Type 0
+TurnedAt w me d c r vhost ring v new =
+    Turned me (turn_of ring v) (turn_of ring new) (holds_turn d && about vhost ring c) (holds_turn (doing_after r.onward d) && about vhost ring c)
+
+apart_here : (w : World) (me : ℕ) (d : Doing) (c : Command) (r : Effect) (vhost ring : ℕ) (v new : Vhost) → turn_of ring new ≡ turn_of ring v → about vhost ring c ≡ false
+    → TurnedAt w me d c r vhost ring v new
+apart_here w me d c r vhost ring v new same no_ =
+    Rests same (ap (λ (b : Bool). holds_turn (doing_after r.onward d) && b) no_ ∙ and_false _ ∙ sym (ap (λ (b : Bool). holds_turn d && b) no_ ∙ and_false _))
+
+moved_here : (w : World) (me : ℕ) (d : Doing) (c : Command) (r : Effect) (vhost ring : ℕ) (v new : Vhost) (holder : Option ℕ) → ring < 2
+    → ((v0 r0 : ℕ) → about v0 r0 c ≡ (vhost == v0 && ring == r0)) → ((r0 : ℕ) → turn_of r0 new ≡ turn_of r0 (with_turn ring holder v))
+    → Turned me (turn_of ring v) holder (holds_turn d) (holds_turn (doing_after r.onward d)) → (r0 : ℕ) → r0 < 2 → TurnedAt w me d c r vhost r0 v new
+moved_here w me d c r vhost ring v new holder below of same turned r0 fits = ⊎_elim
+    (λ it.
+    let yes_ : about vhost ring c ≡ true = of vhost ring ∙ ap (λ (b : Bool). b && ring == ring) (itself vhost) ∙ itself ring in
+    let here : TurnedAt w me d c r vhost ring v new =
+    subst (λ (b : Bool). Turned me (turn_of ring v) (turn_of ring new) (holds_turn d && b) (holds_turn (doing_after r.onward d) && b)) (sym yes_)
+    (subst (λ (b : Bool). Turned me (turn_of ring v) (turn_of ring new) b (holds_turn (doing_after r.onward d) && true)) (sym (and_true (holds_turn d)))
+    (subst (λ (b : Bool). Turned me (turn_of ring v) (turn_of ring new) (holds_turn d) b) (sym (and_true (holds_turn (doing_after r.onward d))))
+    (subst (λ (o : Option ℕ). Turned me (turn_of ring v) o (holds_turn d) (holds_turn (doing_after r.onward d))) (sym (same ring ∙ turn_same ring holder v)) turned))) in
+    subst (λ (n : ℕ). TurnedAt w me d c r vhost n v new) it.1 here)
+    (λ other. apart_here w me d c r vhost r0 v new (same r0 ∙ turn_other ring r0 holder v below fits other.1)
+    (of vhost r0 ∙ ap (λ (b : Bool). vhost == vhost && b) other.0 ∙ and_false (vhost == vhost)))
+    (eqb_tells ring r0)
+
+turned_at : (w : World) (me : ℕ) (d : Doing) (c : Command) (r : Effect) → Turning w me d c r → (vhost : ℕ) (new : Vhost)
+    → at (vhosts_after r.vhosts w.vhosts) vhost ≡ Some new → (v : Vhost) × (at w.vhosts vhost ≡ Some v) × ((ring : ℕ) → ring < 2 → TurnedAt w me d c r vhost ring v new)
+turned_at w me d c r (Unmoved same alike) vhost new at_ =
+    let v = same vhost new at_ in
+    (v.0, v.1, λ ring fits. Rests (same_turn new v.0 v.2 v.3 ring) (ap (λ (b : Bool). b && about vhost ring c) alike))
+turned_at w me d c r (Apart same no_) vhost new at_ =
+    let v = same vhost new at_ in
+    (v.0, v.1, λ ring fits. apart_here w me d c r vhost ring v.0 new (same_turn new v.0 v.2 v.3 ring) (no_ vhost ring v.0 v.1))
+turned_at w me d c r (Moved vhost0 ring0 v0 new0 holder is found below of same turned) vhost new at_ = ⊎_elim
+    (λ it. (
+      v0,
+      ap (at w.vhosts) (sym it.0) ∙ found,
+      λ ring fits. subst (λ (n : ℕ). TurnedAt w me d c r n ring v0 new) it.0
+          (subst (λ (q : Vhost). TurnedAt w me d c r vhost0 ring v0 q) it.1 (moved_here w me d c r vhost0 ring0 v0 new0 holder below of same turned ring fits)),
+    ))
+    (λ other. (
+      new,
+      other.1,
+      λ ring fits. apart_here w me d c r vhost ring new new refl
+          (of vhost ring ∙ ap (λ (b : Bool). b && ring0 == ring) (others vhost0 vhost other.0)),
+    ))
+    (with_at_inv vhost0 new0 w.vhosts vhost new (ap (λ (o : OnVhosts). at (vhosts_after o w.vhosts) vhost) (sym is) ∙ at_))
+
+abbrev pub TurnsHeld : World → Type 0
+TurnsHeld w = EachVhost w (TurnsAreHeld w) × EachVhost w (λ vhost v. IsActor w v.rx_turn × IsActor w v.tx_turn)
+
+there : (w : World) (o : Option ℕ) → IsActor w o → IsThere w.actors o
+there w None h = tt
+there w (Some n) h = h
+
+there_in : (w : World) (o : Option ℕ) → IsThere w.actors o → IsActor w o
+there_in w None h = tt
+there_in w (Some n) h = h
+
+there_still : (actor : ℕ) (new : Actor) (actors : List Actor) (o : Option ℕ) → IsThere actors o → IsThere (with_nth actor new actors) o
+there_still actor new actors None h = tt
+there_still actor new actors (Some n) h = with_nth_there actor new actors n h
+
+between_held : (s : Setup) (w : World) (x : Event) (u : World) (t : IsStep s w x u) → can_be t.actor.doing t.now.command ≡ true
+    → Shape s w x.actor t.actor.seen t.actor.doing t.now.command t.effect → TurnsHeld w → TurnsHeld t.between
+between_held s w x u t can shape h =
+    let actors = effect_actors t.effect x.actor t.actor x.command w t.between t.made in
+    let vhosts = effect_vhosts t.effect x.actor t.actor x.command w t.between t.made in
+    let each = turned_at w x.actor t.actor.doing t.now.command t.effect (turning s w x.actor t.actor.seen t.actor.doing t.now.command t.effect can shape) in (
+      (λ vhost new at_ ring i b fits found.
+      let v = each vhost new (ap (λ (q : List (Option Vhost)). at q vhost) (sym vhosts) ∙ at_) in
+      let turned = v.2 ring fits in
+      let mine : (holds_turn t.actor.doing && about vhost ring t.now.command) ≡ is_at x.actor (turn_of ring v.0) =
+      sym (held_before vhost ring t.actor t.now t.current_is) ∙ h.0 vhost v.0 v.1 ring x.actor t.actor fits t.found in
+      ⊎_elim
+      (λ same. ap (held vhost ring) (sym same.1) ∙ held_after vhost ring t.actor t.now t.effect.onward t.current_is
+      ∙ held_on x.actor (turn_of ring v.0) (turn_of ring new) _ _ turned mine ∙ ap (λ (n : ℕ). is_at n (turn_of ring new)) same.0)
+      (λ other. h.0 vhost v.0 v.1 ring i b fits other.1 ∙ others_on x.actor (turn_of ring v.0) (turn_of ring new) _ _ turned mine i other.0)
+      (with_nth_inv x.actor (actor_after t.effect.onward t.actor) w.actors i b (ap (λ (q : List Actor). slice_get q i) (sym actors) ∙ found))),
+      (λ vhost new at_.
+      let v = each vhost new (ap (λ (q : List (Option Vhost)). at q vhost) (sym vhosts) ∙ at_) in
+      let k = h.1 vhost v.0 v.1 in (
+        there_in t.between new.rx_turn (subst (λ (q : List Actor). IsThere q new.rx_turn) (sym actors)
+        (there_on x.actor (actor_after t.effect.onward t.actor) t.actor w.actors v.0.rx_turn new.rx_turn _ _ (v.2 0 (omega arith)) t.found (there w v.0.rx_turn k.0))),
+        there_in t.between new.tx_turn (subst (λ (q : List Actor). IsThere q new.tx_turn) (sym actors)
+        (there_on x.actor (actor_after t.effect.onward t.actor) t.actor w.actors v.0.tx_turn new.tx_turn _ _ (v.2 1 (omega arith)) t.found (there w v.0.tx_turn k.1))),
+      )),
+    )
+
+pub turns_are_kept : (s : Setup) (w : World) (x : Event) (u : World) (t : IsStep s w x u) → can_be t.actor.doing t.now.command ≡ true
+    → Shape s w x.actor t.actor.seen t.actor.doing t.now.command t.effect → TurnsHeld w → TurnsHeld u
+turns_are_kept s w x u t can shape h =
+    let b = between_held s w x u t can shape h in
+    subst TurnsHeld t.is (when_settled TurnsHeld t.between b (λ f end. (
+      (λ vhost v at_ ring i a fits found. ⊎_elim
+      (λ same.
+      let before = b.0 vhost v at_ ring f.actor f.state fits end.found in
+      ap (held vhost ring) (sym same.1)
+      ∙ sym (ap (λ (d : Doing). holds_turn d && is_about vhost ring (current f.state.script)) end.doing) ∙ before ∙ ap (λ (n : ℕ). is_at n (turn_of ring v)) same.0)
+      (λ other. b.0 vhost v at_ ring i a fits other.1)
+      (with_nth_inv f.actor (record f.state { script = drop 1 f.state.script; doing = Begun }) t.between.actors i a found)),
+      (λ vhost v at_.
+      let k = b.1 vhost v at_ in (
+        there_in (ended f t.between) v.rx_turn (there_still f.actor (record f.state { script = drop 1 f.state.script; doing = Begun }) t.between.actors v.rx_turn (there t.between v.rx_turn k.0)),
+        there_in (ended f t.between) v.tx_turn (there_still f.actor (record f.state { script = drop 1 f.state.script; doing = Begun }) t.between.actors v.tx_turn (there t.between v.tx_turn k.1)),
+      )),
+    )))

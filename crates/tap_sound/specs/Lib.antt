@@ -2,3 +2,4 @@ pub mod Laws
 pub mod Kept
 pub mod Used
 pub mod Reached
+pub mod Held

@@ -6,6 +6,7 @@
 //! `proofs/Taken.antt`, which take a step apart.
 #![tactic(auto)]
 
+ghost use Rattle.tap_sound.specs.Held.{HoldersAreKept};
 ghost use Rattle.tap_sound.specs.Kept.{ClaimsAreKept, EpochsAreKept, LinesAreKept, RoomIsKept, ShutIsKept, StandsAreKept, VersionsAreKept};
 ghost use Rattle.tap_sound.specs.Laws.{AllIsDone, EventsAreScripts, EventsBeginScripts, OrderIsRun};
 ghost use Rattle.tap_sound.specs.Reached.{PhaseIsKept, RunIsKept};
@@ -62,6 +63,11 @@ pub fn claims_are_kept()
 /// Every event keeps that nothing waits behind a shut gate, but where a detach is emptying the file.
 pub fn shut_is_kept()
     ensures { ShutIsKept }
+{}
+
+/// Every event keeps that the writer and the rings' turns are held exactly by the commands that hold them.
+pub fn holders_are_kept()
+    ensures { HoldersAreKept }
 {}
 
 /// So these parts of soundness hold in each world that a run ends in, and in each world on the way.
