@@ -29,3 +29,7 @@ mod Writers
 mod Calls
 mod Turns
 mod Held
+mod NamesTurns
+mod NamesRows
+mod NamesTimes
+mod NamesKept

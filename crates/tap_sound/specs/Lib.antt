@@ -3,3 +3,4 @@ pub mod Kept
 pub mod Used
 pub mod Reached
 pub mod Held
+pub mod Names

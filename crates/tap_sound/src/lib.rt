@@ -9,6 +9,7 @@
 ghost use Rattle.tap_sound.specs.Held.{HoldersAreKept};
 ghost use Rattle.tap_sound.specs.Kept.{ClaimsAreKept, EpochsAreKept, LinesAreKept, RoomIsKept, ShutIsKept, StandsAreKept, VersionsAreKept};
 ghost use Rattle.tap_sound.specs.Laws.{AllIsDone, EventsAreScripts, EventsBeginScripts, OrderIsRun};
+ghost use Rattle.tap_sound.specs.Names.{NamesAreKept, NamesStandAfterRuns, NamesStandInRuns};
 ghost use Rattle.tap_sound.specs.Reached.{PhaseIsKept, RunIsKept};
 ghost use Rattle.tap_sound.specs.Used.{UsedIsCounted};
 
@@ -74,4 +75,12 @@ pub fn holders_are_kept()
 pub fn run_is_kept()
     ensures whole { RunIsKept }
     ensures phase { PhaseIsKept }
+{}
+
+/// Every event keeps that each name stands at most once, and that each accepted name stands but between the event that
+/// accepts it and the one that drops, places or hosts it. So it is in each world that a run reaches.
+pub fn names_stand_once()
+    ensures kept { NamesAreKept }
+    ensures reached { NamesStandInRuns }
+    ensures ended { NamesStandAfterRuns }
 {}

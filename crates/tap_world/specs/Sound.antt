@@ -2,21 +2,17 @@
 use Rattle.std.specs.Prelude.{◌≡◌, ℕ, ◌+◌, ◌-◌, ◌^◌, ◌≤◌, ◌⊎◌, ◌↔◌, ◌==◌, ◌&&◌, max, not, Bool, true, false, if◌then◌else◌, List, [], ◌∷◌, slice_get, Option, Some, None, is_some}
 use Rattle.std.specs.Option.{option_map_or}
 use Rattle.std.specs.List.{AllByRecursion, list_any}
-use Rattle.tap_frame.specs.declared.name.Name.{Name}
 use Rattle.tap_ledger.specs.declared.fate.Fate.TheVariants as fate
 use Rattle.tap_steer.specs.Table.{Table, file_at}
-use Rattle.tap_trace.specs.declared.answer.Answer.{Answer}
-use Rattle.tap_trace.specs.declared.answer.Answer.TheVariants as answer
-use Rattle.tap_trace.specs.declared.turn.ChainText.{ChainText}
-use Rattle.tap_trace.specs.declared.turn.ChainText.TheVariants as chain
 use Rattle.tap_world.specs.ByNumber.{at}
 use Rattle.tap_world.specs.Guests.{Vhost}
 use Rattle.tap_world.specs.Setup.{Setup}
 use Rattle.tap_world.specs.Line.{Entry, File, Standing, claimed, count, first_that, freed, in_batch, is_empty, is_kept}
 use Rattle.tap_world.specs.Line.Standing.{Batched, Claimed, Cut, Out, Ready}
-use Rattle.tap_world.specs.World.{Actor, Doing, Said, World, current, name_of, newest, table}
+use Rattle.tap_world.specs.World.{Actor, Doing, World, current, newest, table}
 use Rattle.tap_world.specs.World.Doing.{Backed, Backs, Begun, Changes, Disowned, Opened, Opens, Owns, Placed, Purges, Receives, Released, Resizes, Shrinks, Unbacked, Withdrawn, Withdraws}
 use Rattle.tap_world.specs.SoundActors.{CanBe}
+use Rattle.tap_world.specs.SoundNames.{NamesStandOnce}
 use Rattle.tap_world.specs.SoundRings.{HasRings, IsActor, IsServed, TurnsAreHeld, is_about}
 use Rattle.tap_world.specs.SoundTable.{AgreesWithTable, HasItsBackends, IsAsFound, IsInTable, commanded, writing}
 
@@ -30,47 +26,6 @@ EachVhost w P = (vhost : ℕ) (v : Vhost) → at w.vhosts vhost ≡ Some v → P
 
 abbrev pub EachActor : World → (ℕ → Actor → Type 0) → Type 0
 EachActor w P = (actor : ℕ) (a : Actor) → slice_get w.actors actor ≡ Some a → P actor a
-
--- ---- 1: names
-
-abbrev pub same_name : Name → Name → Bool
-same_name a b = a.actor == b.actor && a.turn == b.turn && a.part == b.part
-
--- how often a name stands among names, in a line, in all lines, and anywhere
-abbrev pub times_in : Name → List Name → ℕ
-times_in n [] = 0
-times_in n (m ∷ ms) = (if same_name n m then 1 else 0) + times_in n ms
-
-abbrev pub times_on : Name → List Entry → ℕ
-times_on n [] = 0
-times_on n (e ∷ es) = (if same_name n e.name then 1 else 0) + times_on n es
-
-abbrev pub times_placed : Name → List (Option File) → ℕ
-times_placed n [] = 0
-times_placed n (f ∷ fs) = option_map_or (λ (g : File). times_on n g.line) f 0 + times_placed n fs
-
-abbrev pub times : World → Name → ℕ
-times w n = times_in n w.dropped + times_in n w.hosted + times_placed n w.files
-
--- the accepted names that an answer tells
-abbrev pub got_in : List ChainText → List Name
-got_in [] = []
-got_in (chain.Got name len fnv ∷ cs) = name ∷ got_in cs
-got_in (chain.Refused position bad ∷ cs) = got_in cs
-
-abbrev pub accepted_in : ℕ → ℕ → Answer → List Name
-accepted_in actor n (answer.Placed file place epoch len) = name_of actor n ∷ []
-accepted_in actor n (answer.Dropped file cause) = name_of actor n ∷ []
-accepted_in actor n (answer.Host len fnv) = name_of actor n ∷ []
-accepted_in actor n (answer.Turn packets bytes end chains) = got_in chains
-accepted_in actor n other = []
-
--- Each name stands at most once; and the accepted names of each command that has ended stand.
-pub record NamesStandOnce (w : World) : Type 0 where
-  pub once : (n : Name) → times w n ≤ 1
-  pub ended : AllByRecursion
-      (λ (x : Said). AllByRecursion (λ n. times w n ≡ 1) (accepted_in x.line.actor x.line.command x.line.answer))
-      w.said
 
 -- ---- 2: lines
 
