@@ -33,3 +33,4 @@ mod NamesTurns
 mod NamesRows
 mod NamesTimes
 mod NamesKept
+mod Views

@@ -119,14 +119,15 @@ HasItsBackends s w vhost v =
 -- ---- what the command that holds the writer found
 
 -- A detach is of a file whose queue is enabled, until it has published; a close that changes the table alone is of one
--- whose queue isn't. A side of a file that is to be a backend has none; and the worker that is to own a file is the
--- table's.
+-- whose queue isn't. A side of a file of the table that is to be a backend is none yet; and the worker that is to own a
+-- file is the table's.
 abbrev pub IsAsFound : Doing → Option Command → Table → Type 0
 IsAsFound (Withdraws file) c t = is_enabled (file_at t file).attachment ≡ true
 IsAsFound (Withdrawn file version) c t = is_enabled (file_at t file).attachment ≡ false
 IsAsFound Changes (Some (command.Close file)) t = is_enabled (file_at t file).attachment ≡ false
 IsAsFound (Backs None) (Some (command.Backend vhost ring (Some file))) t =
-    is_ring ring ≡ true → backer (side_of ring) (file_at t file) ≡ None
-IsAsFound (Backed file) (Some (command.Backend vhost ring asked)) t = backer (side_of ring) (file_at t file) ≡ None
+    is_ring ring ≡ true → (file < length t.files) × (backer (side_of ring) (file_at t file) ≡ None)
+IsAsFound (Backed file) (Some (command.Backend vhost ring asked)) t =
+    (file < length t.files) × (backer (side_of ring) (file_at t file) ≡ None)
 IsAsFound (Owns file version) (Some (command.Backend vhost ring asked)) t = (file_at t file).rx ≡ Some vhost
 IsAsFound doing c t = Unit {0}
