@@ -34,3 +34,4 @@ mod NamesRows
 mod NamesTimes
 mod NamesKept
 mod Views
+mod TableFiles
