@@ -70,7 +70,7 @@ lines_are_kept s w x u e each = every_event_keeps IsOrdered course_ordered s w x
 
 -- ---- the operations after an effect
 
-effect_ops : (r : Effect) (actor : ℕ) (a : Actor) (n : ℕ) (w v : World) → with_effect r actor a n w ≡ Some v
+pub effect_ops : (r : Effect) (actor : ℕ) (a : Actor) (n : ℕ) (w v : World) → with_effect r actor a n w ≡ Some v
     → v.ops ≡ w.ops ++ map (λ (y : Op). record { phase = w.phase; actor = actor; command = n; op = y }) r.ops
 effect_ops r actor a n w v e =
     let f = then_some (files_after r.files w.files) _ v e in

@@ -35,3 +35,4 @@ mod NamesTimes
 mod NamesKept
 mod Views
 mod TableFiles
+mod Agreeing

@@ -22,7 +22,7 @@ pub data Files (t u : Table) : Type 0 where
   Same : u.files ≡ t.files → Files t u
   One : (file : ℕ) (g : File) → u.files ≡ set t.files file g → Files t u
 
-at_files : (t u : Table) → u.files ≡ t.files → (n : ℕ) → file_at u n ≡ file_at t n
+pub at_files : (t u : Table) → u.files ≡ t.files → (n : ℕ) → file_at u n ≡ file_at t n
 at_files t u is n = ap (λ (fs : List File). get_or fs n (new_file 0)) is
 
 pub many : (t u : Table) → Files t u → length u.files ≡ length t.files
