@@ -36,3 +36,4 @@ mod NamesKept
 mod Views
 mod TableFiles
 mod Agreeing
+mod Publishing
