@@ -37,3 +37,4 @@ mod Views
 mod TableFiles
 mod Agreeing
 mod Publishing
+mod TableKept

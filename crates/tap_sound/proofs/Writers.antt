@@ -72,7 +72,7 @@ course_is P t (op.Shut file) a b c d = either P (tables.is_enabled (file_at t fi
 course_is P t (op.Resize file capacity) a b c d = c file capacity
 course_is P t x a b c d = d
 
-last_holds : (d : Doing) → IsLast d → holds d ≡ true
+pub last_holds : (d : Doing) → IsLast d → holds d ≡ true
 last_holds Changes h = refl
 last_holds (Opened file) h = refl
 last_holds (Shrinks file n m) h = refl
@@ -123,19 +123,19 @@ back_calls s w me seen x vhost ring (Some file) v m h =
     sets_back w me seen vhost ring file x v m (back.back_answer (ready_refusal ring m v.settings) x (back.unfit_for (steer.shape_of (table s w) file) v.settings))
     (λ e. (answered _ _ _ e).1)
 
-rx_holds : (seen file : ℕ) (t : RxTurn) (f : Found) (d : Doing) (o : Option End) → holds (doing_after (rx_turns.rx_onward seen file t f o) d) ≡ false
+pub rx_holds : (seen file : ℕ) (t : RxTurn) (f : Found) (d : Doing) (o : Option End) → holds (doing_after (rx_turns.rx_onward seen file t f o) d) ≡ false
 rx_holds seen file t f d None = refl
 rx_holds seen file t f d (Some e) = refl
 
-tx_holds : (seen file : ℕ) (t : TxTurn) (told : List ChainText) (f : Found) (d : Doing) (o : Option End) → holds (doing_after (tx_turns.tx_onward seen file t told f o) d) ≡ false
+pub tx_holds : (seen file : ℕ) (t : TxTurn) (told : List ChainText) (f : Found) (d : Doing) (o : Option End) → holds (doing_after (tx_turns.tx_onward seen file t told f o) d) ≡ false
 tx_holds seen file t told f d None = refl
 tx_holds seen file t told f d (Some e) = refl
 
-rx_free : (me : ℕ) (d : Doing) (file : ℕ) (t : RxTurn) (v : Vhost) → RxWay me d file t v → holds d ≡ false
+pub rx_free : (me : ℕ) (d : Doing) (file : ℕ) (t : RxTurn) (v : Vhost) → RxWay me d file t v → holds d ≡ false
 rx_free me d file t v (inl is) = ap holds is
 rx_free me d file t v (inr is) = ap holds is.0
 
-tx_free : (d : Doing) (file : ℕ) (t : TxTurn) (told : List ChainText) (v : Vhost) → TxWay d file t told v → holds d ≡ false
+pub tx_free : (d : Doing) (file : ℕ) (t : TxTurn) (told : List ChainText) (v : Vhost) → TxWay d file t told v → holds d ≡ false
 tx_free d file t told v (inl is) = ap holds is
 tx_free d file t told v (inr is) = ap holds is.0
 
