@@ -38,3 +38,4 @@ mod TableFiles
 mod Agreeing
 mod Publishing
 mod TableKept
+mod TableEvents

@@ -109,10 +109,10 @@ at_view w v d d' e e' c p q h = subst (λ (x : Doing). View w v x e' c) p (subst
 abbrev pub FitsWorld : Setup → World → Type 0
 FitsWorld s w = Fits (writing w) (commanded w) (table s w) w.files
 
-into : (w : World) (d : Doing) (c : Option Command) (t : Table) (files : Files) → Is w d c → Fits (writing w) (commanded w) t files → Fits d c t files
+pub into : (w : World) (d : Doing) (c : Option Command) (t : Table) (files : Files) → Is w d c → Fits (writing w) (commanded w) t files → Fits d c t files
 into w d c t files is h = subst (λ (x : Doing). Fits x c t files) is.0 (subst (λ (k : Option Command). Fits (writing w) k t files) is.1 h)
 
-onto : (v : World) (d : Doing) (c : Option Command) (t : Table) (files : Files) → Is v d c → Fits d c t files → Fits (writing v) (commanded v) t files
+pub onto : (v : World) (d : Doing) (c : Option Command) (t : Table) (files : Files) → Is v d c → Fits d c t files → Fits (writing v) (commanded v) t files
 onto v d c t files is h = subst (λ (x : Doing). Fits x (commanded v) t files) (sym is.0) (subst (λ (k : Option Command). Fits d k t files) (sym is.1) h)
 
 -- as before, with another table of the same files
@@ -124,7 +124,7 @@ steady_world w v t u o after_ same files leaves is h =
 -- ---- each shape
 
 -- what a control command finds at its look
-course_found : (s : Setup) (c : Command) (x : Op) (t : Table) → op_of s c ≡ Some x → refuse t x ≡ None → IsAsFound (tables.course t x) (Some c) t
+pub course_found : (s : Setup) (c : Command) (x : Op) (t : Table) → op_of s c ≡ Some x → refuse t x ≡ None → IsAsFound (tables.course t x) (Some c) t
 course_found s (command.SetIff file name flags) x t of no_ = subst (λ (y : Op). IsAsFound (tables.course t y) (Some (command.SetIff file name flags)) t) (some_same _ x of) tt
 course_found s (command.SetQueue file flags) x t of no_ =
     subst (λ (y : Op). IsAsFound (tables.course t y) (Some (command.SetQueue file flags)) t) (some_same _ x of) (go (is_set flags IFF_ATTACH_QUEUE) refl)
@@ -151,7 +151,7 @@ no_text None e = refl
 no_text (Some x) e = absurd (cc (e))
 
 -- what a backend finds at its look
-back_found : (t : Table) (vhost ring : ℕ) (file : Option ℕ) → back.back_refusal t vhost ring file ≡ None → IsAsFound (Backs None) (Some (command.Backend vhost ring file)) t
+pub back_found : (t : Table) (vhost ring : ℕ) (file : Option ℕ) → back.back_refusal t vhost ring file ≡ None → IsAsFound (Backs None) (Some (command.Backend vhost ring file)) t
 back_found t vhost ring None e = tt
 back_found t vhost ring (Some file) e = λ there.
     back_finds t file (back.side_of ring) vhost
@@ -162,47 +162,47 @@ module _ (s : Setup) (w : World) (x : Event) (u : World) (t : IsStep s w x u) wh
 
 
 
-  files_on : (o : OnFiles) → t.effect.files ≡ o → files_after o w.files ≡ Some t.between.files
+  pub files_on : (o : OnFiles) → t.effect.files ≡ o → files_after o w.files ≡ Some t.between.files
   files_on o is = subst (λ (q : OnFiles). files_after q w.files ≡ Some t.between.files) is (effect_files t.effect x.actor t.actor x.command w t.between t.made)
 
-  table_on : (ops : List Op) → t.effect.ops ≡ ops → table s t.between ≡ after_all (table s w) ops
+  pub table_on : (ops : List Op) → t.effect.ops ≡ ops → table s t.between ≡ after_all (table s w) ops
   table_on ops is = table_after s w x u t ∙ ap (after_all (table s w)) is
 
   -- from what fits before to what fits after
-  passes : (d e : Doing) (c k : Option Command) (ops : List Op) → Is w d c → Is t.between e k → t.effect.ops ≡ ops
+  pub passes : (d e : Doing) (c k : Option Command) (ops : List Op) → Is w d c → Is t.between e k → t.effect.ops ≡ ops
       → (Fits d c (table s w) w.files → Fits e k (after_all (table s w) ops) t.between.files) → FitsWorld s w → FitsWorld s t.between
   passes d e c k ops was is published step h =
       onto t.between e k (table s t.between) t.between.files is
       (subst (λ (q : Table). Fits e k q t.between.files) (sym (table_on ops published)) (step (into w d c (table s w) w.files was h)))
 
   -- with the files of the world as they were
-  passes_still : (d e : Doing) (c k : Option Command) (ops : List Op) → Is w d c → Is t.between e k → t.effect.ops ≡ ops → t.effect.files ≡ NoFile
+  pub passes_still : (d e : Doing) (c k : Option Command) (ops : List Op) → Is w d c → Is t.between e k → t.effect.ops ≡ ops → t.effect.files ≡ NoFile
       → (Fits d c (table s w) w.files → Fits e k (after_all (table s w) ops) w.files) → FitsWorld s w → FitsWorld s t.between
   passes_still d e c k ops was is published none step h =
       passes d e c k ops was is published (λ f. subst (λ (q : Files). Fits e k (after_all (table s w) ops) q) (some_same w.files t.between.files (files_on NoFile none)) (step f)) h
 
-  steady_here : (ops : List Op) (o : OnFiles) → (writing t.between ≡ writing w) × (commanded t.between ≡ commanded w) → t.effect.ops ≡ ops
+  pub steady_here : (ops : List Op) (o : OnFiles) → (writing t.between ≡ writing w) × (commanded t.between ≡ commanded w) → t.effect.ops ≡ ops
       → (after_all (table s w) ops).files ≡ (table s w).files → t.effect.files ≡ o → shapes.Leaves o → FitsWorld s w → FitsWorld s t.between
   steady_here ops o same published files is leaves h =
       subst (λ (q : Table). Fits (writing t.between) (commanded t.between) q t.between.files) (sym (table_on ops published))
       (steady_world w t.between (table s w) (after_all (table s w) ops) o t.between.files same files leaves (files_on o is) h)
 
   -- what the doing is after the effect
-  doing_on : (r : Effect) → r ≡ t.effect → (d : Doing) → doing_after t.effect.onward d ≡ doing_after r.onward d
+  pub doing_on : (r : Effect) → r ≡ t.effect → (d : Doing) → doing_after t.effect.onward d ≡ doing_after r.onward d
   doing_on r is d = ap (λ (q : Effect). doing_after q.onward d) (sym is)
 
-  ops_on : (r : Effect) → r ≡ t.effect → t.effect.ops ≡ r.ops
+  pub ops_on : (r : Effect) → r ≡ t.effect → t.effect.ops ≡ r.ops
   ops_on r is = ap (λ (q : Effect). q.ops) (sym is)
 
-  on_files : (r : Effect) → r ≡ t.effect → t.effect.files ≡ r.files
+  pub on_files : (r : Effect) → r ≡ t.effect → t.effect.files ≡ r.files
   on_files r is = ap (λ (q : Effect). q.files) (sym is)
 
   -- a command that holds the writer goes on
-  goes_within : (d e : Doing) (c : Command) (r : Effect) → r ≡ t.effect → View w t.between d (doing_after t.effect.onward d) c → doing_after r.onward d ≡ e
+  pub goes_within : (d e : Doing) (c : Command) (r : Effect) → r ≡ t.effect → View w t.between d (doing_after t.effect.onward d) c → doing_after r.onward d ≡ e
       → holds d ≡ true → holds e ≡ true → Is w d (Some c) × Is t.between e (Some c)
   goes_within d e c r eq view_ is h k = within w t.between d e c (at_view w t.between d d (doing_after t.effect.onward d) e c refl (doing_on r eq d ∙ is) view_) h k
 
-  goes_last : (d : Doing) (c : Command) (r : Effect) → r ≡ t.effect → View w t.between d (doing_after t.effect.onward d) c → doing_after r.onward d ≡ Begun
+  pub goes_last : (d : Doing) (c : Command) (r : Effect) → r ≡ t.effect → View w t.between d (doing_after t.effect.onward d) c → doing_after r.onward d ≡ Begun
       → holds d ≡ true → Is w d (Some c) × Is t.between Begun None
   goes_last d c r eq view_ is h = closes w t.between d Begun c (at_view w t.between d d (doing_after t.effect.onward d) Begun c refl (doing_on r eq d ∙ is) view_) h refl
 
@@ -221,7 +221,7 @@ module _ (s : Setup) (w : World) (x : Event) (u : World) (t : IsStep s w x u) wh
       passes_still (Backed file) Begun (Some (command.Backend vhost ring asked)) None
       (op.Back file (back.side_of ring) (Some vhost) ∷ []) v.0 v.1 (ops_on _ eq) (on_files _ eq) (sets_tx vhost ring asked (table s w) file w.files is) h
 
-  back_publishes : (d : Doing) (vhost ring : ℕ) (asked : Option ℕ) → View w t.between d (doing_after t.effect.onward d) (command.Backend vhost ring asked)
+  pub back_publishes : (d : Doing) (vhost ring : ℕ) (asked : Option ℕ) → View w t.between d (doing_after t.effect.onward d) (command.Backend vhost ring asked)
       → can_be d (command.Backend vhost ring asked) ≡ true → back.publishes_back w d (command.Backend vhost ring asked) ≡ Some t.effect → FitsWorld s w → FitsWorld s t.between
   back_publishes (Backed file) vhost ring asked view_ can e h = set_fits file vhost ring asked view_ (ring == 0) refl (some_same _ t.effect e) h
   back_publishes (Disowned file) vhost ring asked view_ can e h =
@@ -249,7 +249,7 @@ module _ (s : Setup) (w : World) (x : Event) (u : World) (t : IsStep s w x u) wh
   back_publishes d vhost ring asked view_ can e h = absurd (cc (e))
 
   -- the owner of a file changes
-  owns : (d : Doing) (vhost ring : ℕ) (asked : Option ℕ) → View w t.between d (doing_after t.effect.onward d) (command.Backend vhost ring asked)
+  pub owns : (d : Doing) (vhost ring : ℕ) (asked : Option ℕ) → View w t.between d (doing_after t.effect.onward d) (command.Backend vhost ring asked)
       → back.owns w t.actor.seen d (command.Backend vhost ring asked) ≡ Some t.effect → FitsWorld s w → FitsWorld s t.between
   owns (Owns file version) vhost ring asked view_ e h =
       let eq = some_same _ t.effect e in
@@ -298,7 +298,7 @@ module _ (s : Setup) (w : World) (x : Event) (u : World) (t : IsStep s w x u) wh
       back_goes (Backed file) (command.Backend vhost ring (Some file)) view_ (doing_on _ eq (Backs None)) refl (ops_on _ eq) (on_files _ eq) (λ n y. refl) (λ f. f (there refl).0) h
   sets vhost ring file (Some r) v m None there view_ eq h = absurd (cc ((there refl).1))
 
-  drives : (refusal : Option TapText) (vhost ring : ℕ) (file : Option ℕ) (v : Vhost) (m : Contents) → (file ≡ None → refusal ≡ None)
+  pub drives : (refusal : Option TapText) (vhost ring : ℕ) (file : Option ℕ) (v : Vhost) (m : Contents) → (file ≡ None → refusal ≡ None)
       → View w t.between (Backs refusal) (doing_after t.effect.onward (Backs refusal)) (command.Backend vhost ring file)
       → back.back_call s w x.actor t.actor.seen refusal vhost ring file v m ≡ t.effect → FitsWorld s w → FitsWorld s t.between
   drives None vhost ring None v m no_ view_ eq h = unsets vhost ring v m (number_refusal ring) (ring_at ring v.settings).file view_ eq h
@@ -307,6 +307,6 @@ module _ (s : Setup) (w : World) (x : Event) (u : World) (t : IsStep s w x u) wh
       sets vhost ring file refusal v m (back.back_answer (ready_refusal ring m v.settings) refusal (back.unfit_for (steer.shape_of (table s w) file) v.settings))
       (λ e. let a = answered _ _ _ e in (ring_there ring (first_passed _ _ _ a.0), a.1)) view_ eq h
 
-asked_is : (file capacity : ℕ) (c : Command) → can_be (Resizes file capacity) c ≡ true → asked_by (Some c) ≡ capacity
+pub asked_is : (file capacity : ℕ) (c : Command) → can_be (Resizes file capacity) c ≡ true → asked_by (Some c) ≡ capacity
 asked_is file capacity (command.Resize other k) e = equal k capacity (both _ _ e).1
 asked_is file capacity c e = absurd (true≢false (sym e))
