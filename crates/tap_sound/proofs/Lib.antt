@@ -39,3 +39,4 @@ mod Agreeing
 mod Publishing
 mod TableKept
 mod TableEvents
+mod Backers

@@ -4,3 +4,4 @@ pub mod Used
 pub mod Reached
 pub mod Held
 pub mod Names
+pub mod Tabled
