@@ -35,6 +35,7 @@ use Rattle.tap_world.specs.ByNumber.{with_at}
 use Rattle.tap_sound.proofs.Calls.{Called}
 use Rattle.tap_sound.proofs.Calls.Called.{Addr, Base, Features, Num, Untouched}
 use Rattle.tap_sound.proofs.Claims.{with_at_inv}
+use Rattle.tap_sound.proofs.Turns.{and_false}
 use Rattle.tap_sound.proofs.TableFiles.{at_files, back_one, device_same, learn_same, one_here, one_there, past, resize_one, set_iff_one, shut_by, tick_same}
 use Rattle.tap_sound.proofs.Turned.{itself, others}
 
@@ -229,3 +230,145 @@ same_backs d e c k t u vhosts after_ from same h vhost new at_ q n =
     let v = from vhost new at_ in
     let old = h vhost v.0 v.1 q n in
     ((λ is. same q n ∙ old.0 (sym (v.2 q) ∙ is)), (λ is. v.2 q ∙ old.1 (sym (same q n) ∙ is)))
+
+-- ---- a backend is set or unset
+
+iff_by : (a b x y : Option ℕ) (n m : ℕ) → a ≡ x → b ≡ y → ((x ≡ Some n) ↔ (y ≡ Some m)) → (a ≡ Some n) ↔ (b ≡ Some m)
+iff_by a b x y n m p q h = ((λ e. q ∙ h.0 (sym p ∙ e)), (λ e. p ∙ h.1 (sym q ∙ e)))
+
+on_set : (q : Side) (ring file : ℕ) (m : Contents) (s : Settings) → (on_side q (with_backend ring file m s)).file ≡ (if is_on q ring then Some file else (on_side q s).file)
+on_set Rx ring file m s = go (ring == 0)
+  where
+    go : (b : Bool) → (with_ring b (vhost_calls.backed file m (if b then s.rx else s.tx)) s).rx.file ≡ (if b then Some file else s.rx.file)
+    go true = refl
+    go false = refl
+on_set Tx ring file m s = go (ring == 0)
+  where
+    go : (b : Bool) → (with_ring b (vhost_calls.backed file m (if b then s.rx else s.tx)) s).tx.file ≡ (if not b then Some file else s.tx.file)
+    go true = refl
+    go false = refl
+
+on_unset : (q : Side) (ring : ℕ) (s : Settings) → (on_side q (without_backend ring s)).file ≡ (if is_on q ring then None else (on_side q s).file)
+on_unset Rx ring s = go (ring == 0)
+  where
+    go : (b : Bool) → (with_ring b (vhost_calls.unbacked (if b then s.rx else s.tx)) s).rx.file ≡ (if b then None else s.rx.file)
+    go true = refl
+    go false = refl
+on_unset Tx ring s = go (ring == 0)
+  where
+    go : (b : Bool) → (with_ring b (vhost_calls.unbacked (if b then s.rx else s.tx)) s).tx.file ≡ (if not b then None else s.tx.file)
+    go true = refl
+    go false = refl
+
+false_of : (b : Bool) → not b ≡ true → b ≡ false
+false_of true e = absurd (true≢false (sym e))
+false_of false e = refl
+
+on_ring : (q : Side) (ring : ℕ) (s : Settings) → is_on q ring ≡ true → (on_side q s).file ≡ (ring_at ring s).file
+on_ring Rx ring s is = sym (ap (λ (b : Bool). (if b then s.rx else s.tx).file) is)
+on_ring Tx ring s is = sym (ap (λ (b : Bool). (if b then s.rx else s.tx).file) (false_of (ring == 0) is))
+
+side_is : (q : Side) (ring : ℕ) → is_on q ring ≡ true → side_of ring ≡ q
+side_is Rx ring is = ap (λ (b : Bool). if b then Rx else Tx) is
+side_is Tx ring is = ap (λ (b : Bool). if b then Rx else Tx) (false_of (ring == 0) is)
+
+no_some : (n m : ℕ) → n ≢ m → Some n ≡ Some m → ⊥
+no_some n m no_ e = no_ (some_same n m e)
+
+not_none : (n : ℕ) (o : Option ℕ) → o ≡ None → o ≡ Some n → ⊥
+not_none n o a b = cc (a, b)
+
+pub set_backs : (vhost ring file : ℕ) (v : Vhost) (m : Contents) (t : Table) (vhosts : Vhosts) → at vhosts vhost ≡ Some v → (ring_at ring v.settings).file ≡ None
+    → backer (side_of ring) (file_at t file) ≡ None → HaveBackends (Backs None) (Some (command.Backend vhost ring (Some file))) t vhosts
+    → HaveBackends (Backed file) (Some (command.Backend vhost ring (Some file))) t (with_at vhost (record v { settings = with_backend ring file m v.settings }) vhosts)
+set_backs vhost ring file v m t vhosts at_ none free h number new is q n = go (is_on q ring) refl (eqb_tells file n)
+  where
+    B : Option ℕ
+    B = backer q (file_at t n)
+
+    place : ((vhost ≡ number) × (record v { settings = with_backend ring file m v.settings } ≡ new)) ⊎ ((vhost ≢ number) × (at vhosts number ≡ Some new))
+    place = with_at_inv vhost (record v { settings = with_backend ring file m v.settings }) vhosts number new is
+
+    new_file_is : (b : Bool) → is_on q ring ≡ b → record v { settings = with_backend ring file m v.settings } ≡ new → (on_side q new.settings).file ≡ (if b then Some file else (on_side q v.settings).file)
+    new_file_is b on same = ap (λ (k : Vhost). (on_side q k.settings).file) (sym same) ∙ on_set q ring file m v.settings ∙ ap (λ (c : Bool). if c then Some file else (on_side q v.settings).file) on
+
+    old_v : vhost ≡ number → ((on_side q v.settings).file ≡ Some n) ↔ (B ≡ Some number)
+    old_v same = h number v (ap (at vhosts) (sym same) ∙ at_) q n
+
+    go : (b : Bool) → is_on q ring ≡ b → (((file == n) ≡ true) × (file ≡ n)) ⊎ (((file == n) ≡ false) × (file ≢ n))
+        → ((on_side q new.settings).file ≡ Some n) ↔ ((if file == n && is_on q ring then Some vhost else B) ≡ Some number)
+    go false on cases =
+        let right : (if file == n && is_on q ring then Some vhost else B) ≡ B =
+        ap (λ (b : Bool). if file == n && b then Some vhost else B) on ∙ ap (λ (b : Bool). if b then Some vhost else B) (and_false (file == n)) in
+        ⊎_elim
+        (λ here. iff_by (on_side q new.settings).file (if file == n && is_on q ring then Some vhost else B) (on_side q v.settings).file B n number (new_file_is false on here.1) right (old_v here.0))
+        (λ there. iff_by (on_side q new.settings).file (if file == n && is_on q ring then Some vhost else B) (on_side q new.settings).file B n number refl right (h number new there.1 q n))
+        place
+    go true on (inl eq) =
+        let right : (if file == n && is_on q ring then Some vhost else B) ≡ Some vhost =
+        ap (λ (b : Bool). if b && is_on q ring then Some vhost else B) eq.0 ∙ ap (λ (b : Bool). if b then Some vhost else B) on in
+        let nothing : B ≡ None = ap (λ (k : Side). backer k (file_at t n)) (sym (side_is q ring on)) ∙ ap (λ (k : ℕ). backer (side_of ring) (file_at t k)) (sym eq.1) ∙ free in
+        ⊎_elim
+        (λ here. ((λ e. right ∙ ap (λ (k : ℕ). Some k) here.0), (λ e. new_file_is true on here.1 ∙ ap (λ (k : ℕ). Some k) eq.1)))
+        (λ there. (
+          (λ e. absurd (not_none number B nothing ((h number new there.1 q n).0 e))),
+          (λ e. absurd (no_some vhost number there.0 (sym right ∙ e))),
+        ))
+        place
+    go true on (inr apart) =
+        let right : (if file == n && is_on q ring then Some vhost else B) ≡ B = ap (λ (b : Bool). if b && is_on q ring then Some vhost else B) apart.0 in
+        ⊎_elim
+        (λ here. (
+          (λ e. absurd (no_some file n apart.1 (sym (new_file_is true on here.1) ∙ e))),
+          (λ e. absurd (not_none n (on_side q v.settings).file (on_ring q ring v.settings on ∙ none) ((old_v here.0).1 (sym right ∙ e)))),
+        ))
+        (λ there. iff_by (on_side q new.settings).file (if file == n && is_on q ring then Some vhost else B) (on_side q new.settings).file B n number refl right (h number new there.1 q n))
+        place
+
+-- of the side of the ring
+pub unset_backs : (d : Doing) (c k : Option Command) (vhost ring file : ℕ) (v : Vhost) (t : Table) (vhosts : Vhosts) → at vhosts vhost ≡ Some v → (ring_at ring v.settings).file ≡ Some file
+    → ((q : Side) (n : ℕ) (o : Option ℕ) → backer_by d k q n o ≡ (if file == n && is_on q ring then None else o)) → HaveBackends (Backs None) c t vhosts
+    → HaveBackends d k t (with_at vhost (record v { settings = without_backend ring v.settings }) vhosts)
+unset_backs d c k vhost ring file v t vhosts at_ some by h number new is q n = go (is_on q ring) refl (eqb_tells file n)
+  where
+    B : Option ℕ
+    B = backer q (file_at t n)
+
+    place : ((vhost ≡ number) × (record v { settings = without_backend ring v.settings } ≡ new)) ⊎ ((vhost ≢ number) × (at vhosts number ≡ Some new))
+    place = with_at_inv vhost (record v { settings = without_backend ring v.settings }) vhosts number new is
+
+    new_file_is : (b : Bool) → is_on q ring ≡ b → record v { settings = without_backend ring v.settings } ≡ new → (on_side q new.settings).file ≡ (if b then None else (on_side q v.settings).file)
+    new_file_is b on same = ap (λ (k : Vhost). (on_side q k.settings).file) (sym same) ∙ on_unset q ring v.settings ∙ ap (λ (c : Bool). if c then None else (on_side q v.settings).file) on
+
+    old_v : vhost ≡ number → ((on_side q v.settings).file ≡ Some n) ↔ (B ≡ Some number)
+    old_v same = h number v (ap (at vhosts) (sym same) ∙ at_) q n
+
+    go : (b : Bool) → is_on q ring ≡ b → (((file == n) ≡ true) × (file ≡ n)) ⊎ (((file == n) ≡ false) × (file ≢ n))
+        → ((on_side q new.settings).file ≡ Some n) ↔ (backer_by d k q n B ≡ Some number)
+    go false on cases =
+        let right : backer_by d k q n B ≡ B =
+        by q n B ∙ ap (λ (b : Bool). if file == n && b then None else B) on ∙ ap (λ (b : Bool). if b then None else B) (and_false (file == n)) in
+        ⊎_elim
+        (λ here. iff_by (on_side q new.settings).file (backer_by d k q n B) (on_side q v.settings).file B n number (new_file_is false on here.1) right (old_v here.0))
+        (λ there. iff_by (on_side q new.settings).file (backer_by d k q n B) (on_side q new.settings).file B n number refl right (h number new there.1 q n))
+        place
+    go true on (inl eq) =
+        let right : backer_by d k q n B ≡ None =
+        by q n B ∙ ap (λ (b : Bool). if b && is_on q ring then None else B) eq.0 ∙ ap (λ (b : Bool). if b then None else B) on in
+        let mine : (on_side q v.settings).file ≡ Some n = on_ring q ring v.settings on ∙ some ∙ ap (λ (k : ℕ). Some k) eq.1 in
+        ⊎_elim
+        (λ here. ((λ e. absurd (not_none n (on_side q new.settings).file (new_file_is true on here.1) e)), (λ e. absurd (not_none number (backer_by d k q n B) right e))))
+        (λ there. (
+          (λ e. absurd (no_some vhost number there.0 (sym ((h vhost v at_ q n).0 mine) ∙ (h number new there.1 q n).0 e))),
+          (λ e. absurd (not_none number (backer_by d k q n B) right e)),
+        ))
+        place
+    go true on (inr apart) =
+        let right : backer_by d k q n B ≡ B = by q n B ∙ ap (λ (b : Bool). if b && is_on q ring then None else B) apart.0 in
+        ⊎_elim
+        (λ here. (
+          (λ e. absurd (not_none n (on_side q new.settings).file (new_file_is true on here.1) e)),
+          (λ e. absurd (no_some file n apart.1 (sym (on_ring q ring v.settings on ∙ some) ∙ (old_v here.0).1 (sym right ∙ e)))),
+        ))
+        (λ there. iff_by (on_side q new.settings).file (backer_by d k q n B) (on_side q new.settings).file B n number refl right (h number new there.1 q n))
+        place
