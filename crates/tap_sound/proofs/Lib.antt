@@ -40,3 +40,4 @@ mod Publishing
 mod TableKept
 mod TableEvents
 mod Backers
+mod BackerEvents
