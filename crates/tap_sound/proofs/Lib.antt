@@ -22,6 +22,13 @@ mod Claiming
 mod Claims
 mod Shut
 mod Reached
+mod Shapes
+mod ShapeRows
+mod Turned
+mod Writers
+mod Calls
+mod Turns
+mod Held
 mod NamesTurns
 mod NamesRows
 mod NamesTimes
@@ -33,3 +40,11 @@ mod FileRows
 mod HandTurns
 mod HandFiles
 mod HandKept
+mod Views
+mod TableFiles
+mod Agreeing
+mod Publishing
+mod TableKept
+mod TableEvents
+mod Backers
+mod BackerEvents

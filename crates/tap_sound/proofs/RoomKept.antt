@@ -25,7 +25,8 @@ use Rattle.tap_world.specs.Effect.OnFiles.{NoFile, OnFile}
 use Rattle.tap_world.specs.Scripts.{is_kind, next_kind, shrink_next}
 use Rattle.tap_world.specs.Step.{row, step}
 use Rattle.tap_world.specs.SoundActors.{can_be}
-use Rattle.tap_world.specs.Sound.{Agreed, EachFile, HasRoom, IsSound, asked, capacity_before, expected, has_left, of_table, writing}
+use Rattle.tap_world.specs.Sound.{EachActor, EachFile, HasRoom, HasSeen, capacity_before, has_left}
+use Rattle.tap_world.specs.SoundTable.{Agreed, AgreesWithTable, commanded, expected, of_table, writing}
 use Rattle.tap_sound.specs.Kept.{IsOrdered, leaves_sizes}
 use Rattle.tap_world.specs.Then.{◌>>=◌}
 use Rattle.tap_sound.proofs.Kit.{only_some, some_same, where_some}
@@ -33,6 +34,13 @@ use Rattle.tap_sound.proofs.Kept.{effect_files, effect_ops, room_is_kept, same_t
 use Rattle.tap_sound.proofs.Taken.{IsStep, step_is, when_settled}
 use Rattle.tap_sound.proofs.RoomTable.{resize_elsewhere, same_after}
 use Rattle.tap_sound.proofs.RoomRows.{Publishes, Resizing, SizesBy, publish_is, resize_is}
+
+-- what is taken of the world before
+record HadRoom (s : Setup) (w : World) : Type 0 where
+  seen : EachActor w (HasSeen w)
+  stand : EachActor w (λ actor a. CanBe a)
+  agrees : EachFile w (AgreesWithTable s w)
+  room : EachFile w (λ file f. HasRoom (capacity_before file (table s w)) f)
 
 -- ---- a publication
 
@@ -86,7 +94,7 @@ other_before before after_ f le h = record {
   places = h.places;
 }
 
-publish_room : (s : Setup) (w : World) (x : Event) (u : World) (t : IsStep s w x u) (y : Op) → x.kind ≡ event.Publish → IsSound s w → SizesBy t.actor.doing y
+publish_room : (s : Setup) (w : World) (x : Event) (u : World) (t : IsStep s w x u) (y : Op) → x.kind ≡ event.Publish → HadRoom s w → SizesBy t.actor.doing y
     → (file : ℕ) (f : File) → at w.files file ≡ Some f → HasRoom (capacity_before file (after (table s w) y)) f
 publish_room s w x u t (op.Resize file0 capacity) kind sound (places, cuts, doing) file f here = ⊎_elim
     (λ same.
@@ -101,7 +109,7 @@ publish_room s w x u t (op.Resize file0 capacity) kind sound (places, cuts, doin
 publish_room s w x u t y kind sound sizes file f here =
     subst (λ (n : ℕ). HasRoom n f) (sym (same_after (table s w) y tt file)) (sound.room file f here)
 
-when_published : (s : Setup) (w : World) (x : Event) (u : World) (t : IsStep s w x u) → x.kind ≡ event.Publish → IsSound s w
+when_published : (s : Setup) (w : World) (x : Event) (u : World) (t : IsStep s w x u) → x.kind ≡ event.Publish → HadRoom s w
     → EachFile u (λ file f. HasRoom (capacity_before file (table s u)) f)
 when_published s w x u t kind sound file f here =
     let can : can_be t.actor.doing t.now.command ≡ true =
@@ -155,7 +163,7 @@ writing_is w actor a holds found =
     ap (λ (o : Option ℕ). option_map_or (λ (b : Actor). b.doing) (o >>= λ n. slice_get w.actors n) Begun) (held_by w.writer actor holds)
     ∙ ap (λ (o : Option Actor). option_map_or (λ (b : Actor). b.doing) o Begun) found
 
-when_resized : (s : Setup) (w : World) (x : Event) (u : World) (t : IsStep s w x u) → x.kind ≡ event.Resize → IsSound s w
+when_resized : (s : Setup) (w : World) (x : Event) (u : World) (t : IsStep s w x u) → x.kind ≡ event.Resize → HadRoom s w
     → EachFile u (λ file f. HasRoom (capacity_before file (table s u)) f)
 when_resized s w x u t kind sound file f here =
     let r : Resizing w x.actor t.actor.doing t.effect =
@@ -165,7 +173,7 @@ when_resized s w x u t kind sound file f here =
     let each : EachFile w (λ n g. RoomFor (capacity_before n (table s w)) g) =
     λ n g at_. room_for (capacity_before n (table s w)) g
     (ap (λ (y : Agreed). y.capacity) (sound.agrees n g at_)
-    ∙ ap (λ (d : Doing). (expected d (asked w) n (of_table (table s w) n)).capacity) doing) (sound.room n g at_) in
+    ∙ ap (λ (d : Doing). (expected d (commanded w) n (of_table (table s w) n)).capacity) doing) (sound.room n g at_) in
     let after_ : EachFile u (λ n g. RoomFor (capacity_before n (table s w)) g) =
     step_keeps (λ n g. RoomFor (capacity_before n (table s w)) g) s w x u t
     (λ n c g h o e q. sized (capacity_before n (table s w)) r.1 g h (subst (λ (k : Change). changed k g ≡ Some h) (same_change n r.0 c (Sizes r.1) (sym o ∙ r.3)) e) q) each in
@@ -188,9 +196,10 @@ which event.Publish = inr (inl refl)
 which event.Resize = inr (inr refl)
 which k = inl refl
 
-pub room_is_always_kept : (s : Setup) (w : World) (x : Event) (u : World × Heard) → step s w x ≡ Some u → IsSound s w
-    → EachFile u.0 (λ file f. HasRoom (capacity_before file (table s u.0)) f)
-room_is_always_kept s w x u e sound =
+pub room_is_always_kept : (s : Setup) (w : World) (x : Event) (u : World × Heard) → step s w x ≡ Some u → EachActor w (HasSeen w) → EachActor w (λ actor a. CanBe a)
+    → EachFile w (AgreesWithTable s w) → EachFile w (λ file f. HasRoom (capacity_before file (table s w)) f) → EachFile u.0 (λ file f. HasRoom (capacity_before file (table s u.0)) f)
+room_is_always_kept s w x u e seen stand agrees room =
     let t = step_is s w x u e in
-    ⊎_elim (λ quiet. room_is_kept s w x u e quiet sound.seen sound.room)
+    let sound : HadRoom s w = record { seen = seen; stand = stand; agrees = agrees; room = room } in
+    ⊎_elim (λ quiet. room_is_kept s w x u e quiet seen room)
     (λ k. ⊎_elim (λ kind. when_published s w x u.0 t kind sound) (λ kind. when_resized s w x u.0 t kind sound) k) (which x.kind)

@@ -8,6 +8,7 @@
 #![tactic(auto)]
 
 ghost use Rattle.tap_sound.specs.Hand.{HandIsKept, HandIsOwnersInRuns};
+ghost use Rattle.tap_sound.specs.Held.{HoldersAreKept};
 ghost use Rattle.tap_sound.specs.Kept.{ClaimsAreKept, EpochsAreKept, LinesAreKept, RoomIsKept, ShutIsKept, StandsAreKept, VersionsAreKept};
 ghost use Rattle.tap_sound.specs.Laws.{AllIsDone, EventsAreScripts, EventsBeginScripts, OrderIsRun};
 ghost use Rattle.tap_sound.specs.Names.{NamesAreKept, NamesStandAfterRuns, NamesStandInRuns};
@@ -68,6 +69,11 @@ pub fn shut_is_kept()
     ensures { ShutIsKept }
 {}
 
+/// Every event keeps that the writer and the rings' turns are held exactly by the commands that hold them.
+pub fn holders_are_kept()
+    ensures { HoldersAreKept }
+{}
+
 /// So these parts of soundness hold in each world that a run ends in, and in each world on the way.
 pub fn run_is_kept()
     ensures whole { RunIsKept }
@@ -82,7 +88,7 @@ pub fn names_stand_once()
     ensures ended { NamesStandAfterRuns }
 {}
 
-/// Every event of a sound world keeps room in each line, also the two that change a capacity.
+/// Every event keeps room in each line, also the two that change a capacity, where files have what the table says.
 pub fn room_is_always_kept()
     ensures { RoomIsAlwaysKept }
 {}

@@ -23,6 +23,7 @@ pub mod Runs
 pub mod Project
 pub mod SoundRings
 pub mod SoundActors
+pub mod SoundTable
 pub mod SoundNames
 pub mod Sound
 pub mod Laws

@@ -8,11 +8,7 @@ use Rattle.vring_turns.specs.declared.stage.RxStage.{RxStage}
 use Rattle.vring_turns.specs.declared.stage.RxStage.TheVariants as rx
 use Rattle.tap_world.specs.ByNumber.{at}
 use Rattle.tap_world.specs.Guests.{Vhost}
-use Rattle.scen_words.specs.declared.command.Command.{Command}
-use Rattle.scen_words.specs.declared.command.Command.TheVariants as command
-use Rattle.tap_world.specs.Then.{◌>>=◌}
-use Rattle.tap_world.specs.Setup.{Numbered, Setup}
-use Rattle.tap_world.specs.StepTable.{is_enabled}
+use Rattle.tap_world.specs.Setup.{Setup}
 use Rattle.tap_world.specs.Line.{Entry, File, Standing, claimed, count, first_that, freed, in_batch, is_empty, is_kept}
 use Rattle.tap_world.specs.Line.Standing.{Batched, Claimed, Cut, Out, Ready}
 use Rattle.tap_world.specs.World.{Actor, Doing, World, current, newest, table}
@@ -20,6 +16,7 @@ use Rattle.tap_world.specs.World.Doing.{Backed, Backs, Begun, Changes, Disowned,
 use Rattle.tap_world.specs.SoundActors.{CanBe}
 use Rattle.tap_world.specs.SoundNames.{NamesStandOnce}
 use Rattle.tap_world.specs.SoundRings.{HasRings, IsActor, IsServed, TurnsAreHeld, is_about}
+use Rattle.tap_world.specs.SoundTable.{AgreesWithTable, HasItsBackends, IsAsFound, IsInTable, commanded, writing}
 
 -- ---- each file, each vhost, each actor
 
@@ -105,76 +102,6 @@ abbrev pub IsEmptyWhenShut : World → ℕ → File → Type 0
 IsEmptyWhenShut w file f =
     f.shut ≡ true → (is_empty f ≡ true) ⊎ (list_any (λ (a : Actor). is_purging file a.doing) w.actors ≡ true)
 
--- ---- 6: files and the table
-
--- what a file has of the table: its epoch, whether its gate is shut, its owner, its capacity and its resizes
-pub record Agreed : Type 0 where
-  pub epoch : ℕ
-  pub shut : Bool
-  pub owner : Option ℕ
-  pub capacity : ℕ
-  pub resizes : ℕ
-
-abbrev pub has_of : File → Agreed
-has_of f = record { epoch = f.epoch; shut = f.shut; owner = f.owner; capacity = f.capacity; resizes = f.resizes }
-
-abbrev pub of_table : Table → ℕ → Agreed
-of_table t file = record {
-  epoch = (file_at t file).epoch;
-  shut = not (is_enabled (file_at t file).attachment);
-  owner = (file_at t file).rx;
-  capacity = (file_at t file).capacity;
-  resizes = (file_at t file).resizes;
-}
-
--- what the command that holds the writer has on its own file in place of that: a resize has the capacity that it asks
--- for
-abbrev pub expected : Doing → ℕ → ℕ → Agreed → Agreed
-expected (Opened other) asked file x = if other == file then record x { epoch = x.epoch + 1; shut = false } else x
-expected (Withdrawn other version) asked file x = if other == file then record x { shut = false } else x
-expected (Shrinks other places cuts) asked file x =
-    if other == file then record x { capacity = asked; resizes = x.resizes + 1 } else x
-expected (Owns other version) asked file x = if other == file then record x { owner = None } else x
-expected (Disowned other) asked file x = if other == file then record x { owner = None } else x
-expected doing asked file x = x
-
--- the actor that holds the writer, what its command is doing, and the capacity that this asks for
-abbrev pub writer_of : World → Option Actor
-writer_of w = do
-  actor ← w.writer
-  slice_get w.actors actor
-
-abbrev pub writing : World → Doing
-writing w = option_map_or (λ (a : Actor). a.doing) (writer_of w) Begun
-
-abbrev pub asked_by : Command → ℕ
-asked_by (command.Resize file capacity) = capacity
-asked_by other = 0
-
-abbrev pub asked : World → ℕ
-asked w = option_map_or (λ (c : Numbered). asked_by c.command) (writer_of w >>= λ a. current a.script) 0
-
--- A gate has its file's epoch, and is unshut exactly where its file is enabled; the owner is the worker that the table
--- names; capacity and number of resizes are the table's; but for the command that holds the writer.
-abbrev pub AgreesWithTable : Setup → World → ℕ → File → Type 0
-AgreesWithTable s w file f = has_of f ≡ expected (writing w) (asked w) file (of_table (table s w) file)
-
--- a backend is being set or unset on a file
-abbrev pub is_changing : ℕ → Doing → Bool
-is_changing file (Backed other) = other == file
-is_changing file (Unbacked other) = other == file
-is_changing file (Disowned other) = other == file
-is_changing file (Released other) = other == file
-is_changing file doing = false
-
--- A vhost's ring has a file as its backend exactly where the table names that vhost for that file and side, but where
--- the command that holds the writer is setting or unsetting it.
-abbrev pub HasItsBackends : Setup → World → ℕ → Vhost → Type 0
-HasItsBackends s w vhost v =
-    (file : ℕ) → is_changing file (writing w) ≡ false
-    → ((v.settings.rx.file ≡ Some file) ↔ ((file_at (table s w) file).rx ≡ Some vhost))
-    × ((v.settings.tx.file ≡ Some file) ↔ ((file_at (table s w) file).tx ≡ Some vhost))
-
 -- ---- 7: a frame in hand
 
 -- a receive turn has a frame in hand: from the step that takes it until it is out or put back
@@ -239,7 +166,9 @@ pub record IsSound (s : Setup) (w : World) : Type 0 where
   pub epochs : EachFile w (λ file f. HasEpochs f)
   pub shut : EachFile w (IsEmptyWhenShut w)
   pub agrees : EachFile w (AgreesWithTable s w)
+  pub known : EachFile w (IsInTable s w)
   pub backends : EachVhost w (HasItsBackends s w)
+  pub found : IsAsFound (writing w) (commanded w) (table s w)
   pub hand : EachFile w (HandIsOwners w)
   pub rings : EachVhost w (HasRings w)
   pub served : EachVhost w (IsServed w)
