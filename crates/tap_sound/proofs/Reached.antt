@@ -52,7 +52,7 @@ new_seen p seen from zero i a e = absurd (cc (e))
 new_seen p seen from (suc n) zero a e = ap (λ (q : Actor). q.seen) (sym (some_same _ a e))
 new_seen p seen from (suc n) (suc i) a e = new_seen p seen (from + 1) n i a e
 
-new_stands : (p : Phase) (seen from n i : ℕ) (a : Actor) → slice_get (actors_from p seen from n) i ≡ Some a → CanBe a
+pub new_stands : (p : Phase) (seen from n i : ℕ) (a : Actor) → slice_get (actors_from p seen from n) i ≡ Some a → CanBe a
 new_stands p seen from zero i a e = absurd (cc (e))
 new_stands p seen from (suc n) zero a e = subst CanBe (some_same _ a e) (begun_stands seen (script_in p from))
 new_stands p seen from (suc n) (suc i) a e = new_stands p seen (from + 1) n i a e
@@ -81,7 +81,7 @@ begins_kept number p w h still = record {
 
 -- ---- the beginning
 
-declared : (fs : List (Option Declared)) (file : ℕ) (f : File) → at (map (λ (d : Option Declared). option_map new_file d) fs) file ≡ Some f
+pub declared : (fs : List (Option Declared)) (file : ℕ) (f : File) → at (map (λ (d : Option Declared). option_map new_file d) fs) file ≡ Some f
     → (d : Declared) × (at fs file ≡ Some d) × (new_file d ≡ f)
 declared [] file f e = absurd (cc (e))
 declared (None ∷ fs) zero f e = absurd (cc (e))

@@ -21,7 +21,7 @@ pub begun_stands : (seen : ℕ) (cs : List Numbered) → CanBe (record { seen = 
 begun_stands seen [] = refl
 begun_stands seen (c ∷ cs) = refl
 
-stands_at : (a : Actor) (c : Numbered) → slice_get a.script 0 ≡ Some c → CanBe a → can_be a.doing c.command ≡ true
+pub stands_at : (a : Actor) (c : Numbered) → slice_get a.script 0 ≡ Some c → CanBe a → can_be a.doing c.command ≡ true
 stands_at a c at h = sym (ap (λ (o : Option Numbered). option_map_or (λ (x : Numbered). can_be a.doing x.command) o true) at) ∙ h
 
 stands_after : (o : Onward) (a : Actor) (c : Numbered) → slice_get a.script 0 ≡ Some c → Leads c.command o → CanBe a → CanBe (actor_after o a)

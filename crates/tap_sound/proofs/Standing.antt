@@ -1,6 +1,6 @@
 -- Every row of the table of events leads a command to where it can come.
-use Rattle.std.proofs.Common.{◌≡◌, ℕ, ◌+◌, List, [], ◌∷◌, Bool, true, false, Option, Some, None, ⊎_elim, refl, sym, ap}
-use Rattle.std.specs.Prelude.{if◌then◌else◌, ◌==◌, ◌&&◌, ◌||◌, is_none, nat_lt, slice_get}
+use Rattle.std.proofs.Common.{◌≡◌, ◌<◌, ℕ, suc, ◌+◌, List, [], ◌∷◌, Bool, true, false, Option, Some, None, ⊎_elim, refl, sym, ap, ◌∙◌, arith}
+use Rattle.std.specs.Prelude.{if◌then◌else◌, ◌==◌, ◌&&◌, ◌||◌, is_none, nat_le, nat_lt, slice_get}
 use Rattle.guest_mem.specs.Memory.{Contents}
 use Rattle.tap_frame.specs.declared.name.Name.{Name}
 use Rattle.tap_ledger.specs.declared.fate.Cause.{Cause}
@@ -61,7 +61,7 @@ use Rattle.tap_world.specs.Effect.OnFiles.{NoFile}
 use Rattle.vring_turns.specs.RxTurn.{rx_begun}
 use Rattle.vring_turns.specs.TxTurn.{tx_begun}
 use Rattle.vhost_dev.specs.Settings.{hdr_of}
-use Rattle.std.proofs.lemmas.Bool.Decides.{eqb_tells}
+use Rattle.std.proofs.lemmas.Bool.Decides.{eqb_tells, leb_tells}
 use Rattle.tap_steer.specs.declared.operation.TheConstants.{IFF_ATTACH_QUEUE}
 use Rattle.tap_steer.specs.Table.{file_at, is_set}
 use Rattle.tap_world.specs.SoundActors.{can_be, is_rx_turn, is_tx_turn, resizes, resizes_to, sets}
@@ -116,7 +116,7 @@ reading w file room front = go (nat_lt room (least_in front))
     go true = tt
     go false = itself file
 
-back_seen : (w : World) (actor vhost r : ℕ) (v : Vhost) (file : Option ℕ) (x : Option TapText) → To (command.Backend vhost r file) (back.back_seen w actor vhost r v x)
+back_seen : (w : World) (actor vhost r : ℕ) (v : Vhost) (file : ℕ) (x : Option TapText) → To (command.Backend vhost r (Some file)) (back.back_seen w actor vhost r v x)
 back_seen w actor vhost r v file None = refl
 back_seen w actor vhost r v file (Some x) = refl
 
@@ -161,9 +161,12 @@ look_row s w actor a n (command.Read file room) = with_front w (command.Read fil
 look_row s w actor a n (command.Write file bytes) = with_front w (command.Write file bytes) (steer.shape_of (table s w) file) (tables.writes (table s w) w file bytes)
     (λ front. unless_bad w (command.Write file bytes) (bad_in front bytes)
     (only (Goes (newest w) (Hosts file (ether_in front bytes) (steer.learns (table s w) file)) (found.Version (newest w))) w) (itself file))
-look_row s w actor a n (command.Backend vhost r file) =
-    where_then (To (command.Backend vhost r file)) (at w.vhosts vhost) _ (λ v e. where_only (To (command.Backend vhost r file)) (is_none w.writer && (not (is_ring r) || is_none (turn_of r v)))
-    (back.back_seen w actor vhost r v (back.back_refusal (table s w) vhost r file)) (λ e. back_seen w actor vhost r v file _))
+look_row s w actor a n (command.Backend vhost r None) =
+    where_then (To (command.Backend vhost r None)) (at w.vhosts vhost) _ (λ v e. where_only (To (command.Backend vhost r None)) (is_none w.writer && (not (is_ring r) || is_none (turn_of r v)))
+    (back.back_seen w actor vhost r v (back.back_refusal (table s w) vhost r None)) (λ e. refl))
+look_row s w actor a n (command.Backend vhost r (Some file)) =
+    where_then (To (command.Backend vhost r (Some file))) (at w.vhosts vhost) _ (λ v e. where_only (To (command.Backend vhost r (Some file))) (is_none w.writer && (not (is_ring r) || is_none (turn_of r v)))
+    (back.back_seen w actor vhost r v (back.back_refusal (table s w) vhost r (Some file))) (λ e. back_seen w actor vhost r v file _))
 look_row s w actor a n (command.TxTurn vhost) = flow s w vhost a.doing
 look_row s w actor a n c = tt
 
@@ -269,27 +272,44 @@ calls w actor seen c =
     where_then (To c) (control.vhost_of c) _ (λ vhost e1. where_then (To c) (at w.vhosts vhost) _ (λ v e2. where_then (To c) (at w.guests v.guest) _
     (λ g e3. where_then (To c) (control.call_of c v g.memory) _ (λ x e4. where_only (To c) _ (control.call_effect w seen vhost v.guest x) (λ y. tt)))))
 
-sets_back : (w : World) (actor seen vhost r file : ℕ) (x : Option TapText) (v : Vhost) (m : Contents) (a : Option Answer)
-    → To (command.Backend vhost r (Some file)) (back.sets_back w actor seen vhost r file x v m a)
-sets_back w actor seen vhost r file x v m (Some a) = tt
-sets_back w actor seen vhost r file x v m None = itself file
+pub ring_there : (ring : ℕ) → nat_le 2 ring ≡ false → is_ring ring ≡ true
+ring_there ring e = ⊎_elim (λ t. absurd (true≢false (sym t.0 ∙ e))) (λ t. ⊎_elim (λ h. h.0) (λ h. absurd (over t.1 h.1)) (leb_tells (suc ring) 2)) (leb_tells 2 ring)
+  where
+    over : ring < 2 → 2 < suc ring → ⊥
+    over a b = omega (arith, a, b)
 
-unsets_back : (w : World) (actor seen vhost r : ℕ) (v : Vhost) (m : Contents) (a : Option VhostErr) (file : Option ℕ)
+pub first_passed : (b : Bool) (e : VhostErr) (rest : Option VhostErr) → (if b then Some e else rest) ≡ None → b ≡ false
+first_passed true e rest h = absurd (cc (h))
+first_passed false e rest h = refl
+
+sets_back : (w : World) (actor seen vhost r file : ℕ) (x : Option TapText) (v : Vhost) (m : Contents) (a : Option Answer) → (a ≡ None → is_ring r ≡ true)
+    → To (command.Backend vhost r (Some file)) (back.sets_back w actor seen vhost r file x v m a)
+sets_back w actor seen vhost r file x v m (Some a) h = tt
+sets_back w actor seen vhost r file x v m None h = and_both (file == file) (is_ring r) (itself file) (h refl)
+
+unsets_back : (w : World) (actor seen vhost r : ℕ) (v : Vhost) (m : Contents) (a : Option VhostErr) (file : Option ℕ) → (a ≡ None → is_ring r ≡ true)
     → To (command.Backend vhost r None) (back.unsets_back w actor seen vhost r v m a file)
-unsets_back w actor seen vhost r v m (Some a) file = tt
-unsets_back w actor seen vhost r v m None None = tt
-unsets_back w actor seen vhost r v m None (Some file) = go (r == 0) refl
+unsets_back w actor seen vhost r v m (Some a) file h = tt
+unsets_back w actor seen vhost r v m None None h = tt
+unsets_back w actor seen vhost r v m None (Some file) h = go (r == 0) refl
   where
     go : (b : Bool) → (r == 0) ≡ b → can_be (if b then Unbacked file else Released file) (command.Backend vhost r None) ≡ true
-    go true is = is
-    go false is = ap not is
+    go true is = and_both (is_ring r) (r == 0) (h refl) is
+    go false is = and_both (is_ring r) (not (r == 0)) (h refl) (ap not is)
+
+pub answered : (o : Option VhostErr) (x : Option TapText) (u : Option VhostErr) → back.back_answer o x u ≡ None → (o ≡ None) × (x ≡ None)
+answered None None u e = (refl, refl)
+answered None (Some x) u e = absurd (cc (e))
+answered (Some e) x u h = absurd (cc (h))
 
 backs : (s : Setup) (w : World) (actor seen : ℕ) (d : Doing) (c : Command) → AllLead c (back.backs s w actor seen d c)
 backs s w actor seen (Backs x) (command.Backend vhost r None) = where_then (To (command.Backend vhost r None)) (at w.vhosts vhost) _ (λ v e1. where_then (To (command.Backend vhost r None)) (at w.guests v.guest) _
-    (λ g e2. where_only (To (command.Backend vhost r None)) _ _ (λ y. unsets_back w actor seen vhost r v g.memory (number_refusal r) (ring_at r v.settings).file)))
+    (λ g e2. where_only (To (command.Backend vhost r None)) _ _
+    (λ y. unsets_back w actor seen vhost r v g.memory (number_refusal r) (ring_at r v.settings).file (λ h. ring_there r (first_passed _ _ _ h)))))
 backs s w actor seen (Backs x) (command.Backend vhost r (Some file)) = where_then (To (command.Backend vhost r (Some file))) (at w.vhosts vhost) _
     (λ v e1. where_then (To (command.Backend vhost r (Some file))) (at w.guests v.guest) _
-    (λ g e2. where_only (To (command.Backend vhost r (Some file))) _ (back.sets_back w actor seen vhost r file x v g.memory _) (λ y. sets_back w actor seen vhost r file x v g.memory _)))
+    (λ g e2. where_only (To (command.Backend vhost r (Some file))) _ (back.sets_back w actor seen vhost r file x v g.memory _)
+    (λ y. sets_back w actor seen vhost r file x v g.memory _ (λ h. ring_there r (first_passed _ _ _ (answered _ _ _ h).0)))))
 backs s w actor seen d c = tt
 
 drive_row : (s : Setup) (w : World) (actor seen : ℕ) (d : Doing) (c : Command) → AllLead c (rows.drive_row s w actor seen d c)

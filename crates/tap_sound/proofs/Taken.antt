@@ -12,7 +12,8 @@ use Rattle.tap_world.specs.World.{Actor, Doing, World, current}
 use Rattle.tap_world.specs.World.Doing.{Purges}
 use Rattle.tap_world.specs.Effect.{Effect, Ending, ended, ending, purge_of, settled, with_effect}
 use Rattle.tap_world.specs.Scripts.{is_kind, next_kind}
-use Rattle.tap_world.specs.Step.{effect, row, step, stepped}
+use Rattle.tap_world.specs.Stands.{are_new, if_new, names_of}
+use Rattle.tap_world.specs.Step.{effect, row, row_of, step, stepped}
 use Rattle.tap_sound.proofs.Kit.{only_some, some_same, then_some}
 
 pub both : (a b : Bool) → (a && b) ≡ true → (a ≡ true) × (b ≡ true)
@@ -59,6 +60,7 @@ pub record IsStep (s : Setup) (w : World) (e : Event) (u : World) : Type 0 where
   pub number : now.number ≡ e.command
   pub next : is_kind e.kind (next_kind w actor.doing now.command) ≡ true
   pub is_row : row s w e.kind e.actor actor now.number now.command ≡ Some effect
+  pub new : are_new w (names_of effect) ≡ true
   pub made : with_effect effect e.actor actor e.command w ≡ Some between
   pub is : settled between (ending between) ≡ u
 
@@ -74,9 +76,11 @@ step_is s w e u h =
     let r = then_some (effect s w e) (λ x. slice_get w.actors e.actor >>= λ a. stepped x e a w) u h in
     let a = then_some (slice_get w.actors e.actor) (λ y. stepped r.0 e y w) u r.2 in
     let v = then_some (with_effect r.0 e.actor a.0 e.command w) _ u a.2 in
-    let b = then_some (slice_get w.actors e.actor) _ r.0 r.1 in
-    let c = then_some (current b.0.script) _ r.0 b.2 in
-    let i = if_some _ _ r.0 c.2 in
+    let q = then_some (row_of s w e) (λ x. if_new w x) r.0 r.1 in
+    let o = only_some (are_new w (names_of q.0)) q.0 r.0 q.2 in
+    let b = then_some (slice_get w.actors e.actor) _ q.0 q.1 in
+    let c = then_some (current b.0.script) _ q.0 b.2 in
+    let i = if_some _ _ q.0 c.2 in
     let t = both _ _ i.0 in
     let same : b.0 ≡ a.0 = some_same b.0 a.0 (sym b.1 ∙ a.1) in
     record {
@@ -88,7 +92,8 @@ step_is s w e u h =
       current_is = c.1;
       number = eqb_true c.0.number e.command t.0;
       next = t.1;
-      is_row = i.1;
+      is_row = i.1 ∙ ap Some o.1;
+      new = subst (λ x. are_new w (names_of x) ≡ true) o.1 o.0;
       made = subst (λ y. with_effect r.0 e.actor y e.command w ≡ Some v.0) (sym same) v.1;
       is = ap (λ (x : World × Heard). x.0) (some_same _ u v.2);
     }

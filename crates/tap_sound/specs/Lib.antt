@@ -2,3 +2,8 @@ pub mod Laws
 pub mod Kept
 pub mod Used
 pub mod Reached
+pub mod Held
+pub mod Names
+pub mod Room
+pub mod Hand
+pub mod Tabled

@@ -1,14 +1,19 @@
 //! What is true of every run of a scenario: laws, each a function that does nothing. The statements stand in `specs/`.
 //!
 //! `specs/Laws.antt` says that a run's events are the scripts of its commands, and that nothing is left undone;
-//! `specs/Kept.antt` what each event keeps of what is sound; `specs/Reached.antt` what therefore holds in every world of
-//! a run; `specs/Used.antt` what a trace tells of published chains. The proofs begin with `proofs/Kit.antt` and
-//! `proofs/Taken.antt`, which take a step apart.
+//! `specs/Kept.antt` what each event keeps of what is sound, and `specs/Names.antt`, `specs/Hand.antt` and
+//! `specs/Room.antt` what it keeps of names, of a frame in hand and of the room in a line; `specs/Reached.antt` what
+//! therefore holds in every world of a run; `specs/Used.antt` what a trace tells of published chains. The proofs begin
+//! with `proofs/Kit.antt` and `proofs/Taken.antt`, which take a step apart.
 #![tactic(auto)]
 
+ghost use Rattle.tap_sound.specs.Hand.{HandIsKept, HandIsOwnersInRuns};
+ghost use Rattle.tap_sound.specs.Held.{HoldersAreKept};
 ghost use Rattle.tap_sound.specs.Kept.{ClaimsAreKept, EpochsAreKept, LinesAreKept, RoomIsKept, ShutIsKept, StandsAreKept, VersionsAreKept};
 ghost use Rattle.tap_sound.specs.Laws.{AllIsDone, EventsAreScripts, EventsBeginScripts, OrderIsRun};
+ghost use Rattle.tap_sound.specs.Names.{NamesAreKept, NamesStandAfterRuns, NamesStandInRuns};
 ghost use Rattle.tap_sound.specs.Reached.{PhaseIsKept, RunIsKept};
+ghost use Rattle.tap_sound.specs.Room.{RoomIsAlwaysKept};
 ghost use Rattle.tap_sound.specs.Used.{UsedIsCounted};
 
 /// In a run the events of each actor are the scripts of its commands, one after another; on the way to its end the last
@@ -64,8 +69,33 @@ pub fn shut_is_kept()
     ensures { ShutIsKept }
 {}
 
+/// Every event keeps that the writer and the rings' turns are held exactly by the commands that hold them.
+pub fn holders_are_kept()
+    ensures { HoldersAreKept }
+{}
+
 /// So these parts of soundness hold in each world that a run ends in, and in each world on the way.
 pub fn run_is_kept()
     ensures whole { RunIsKept }
     ensures phase { PhaseIsKept }
+{}
+
+/// Every event keeps that each name stands at most once, and that each accepted name stands but between the event that
+/// accepts it and the one that drops, places or hosts it. So it is in each world that a run reaches.
+pub fn names_stand_once()
+    ensures kept { NamesAreKept }
+    ensures reached { NamesStandInRuns }
+    ensures ended { NamesStandAfterRuns }
+{}
+
+/// Every event keeps room in each line, also the two that change a capacity, where files have what the table says.
+pub fn room_is_always_kept()
+    ensures { RoomIsAlwaysKept }
+{}
+
+/// Every event keeps that a frame in hand is the batch's front and its owner's, whose receive turn is under way. So it
+/// is in each world that a run reaches.
+pub fn hand_is_owners()
+    ensures kept { HandIsKept }
+    ensures reached { HandIsOwnersInRuns }
 {}

@@ -14,7 +14,8 @@ use Rattle.tap_world.specs.Line.{Entry}
 use Rattle.tap_world.specs.Line.Standing.{Out}
 use Rattle.tap_world.specs.World.{World}
 use Rattle.tap_world.specs.Runs.{IsOrder}
-use Rattle.tap_world.specs.Sound.{InThreeParts, IsSound, is_cut, rank, times}
+use Rattle.tap_world.specs.Sound.{InThreeParts, IsSound, is_cut, rank}
+use Rattle.tap_world.specs.Stands.{times}
 
 -- A scenario has one order for each seed: its events, and the world that it ends in.
 abbrev pub OneOrder : Type 0

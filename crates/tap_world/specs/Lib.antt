@@ -7,6 +7,7 @@ pub mod LineSteps
 pub mod Guests
 pub mod World
 pub mod Effect
+pub mod Stands
 pub mod Causes
 pub mod StepTable
 pub mod StepRing
@@ -22,6 +23,8 @@ pub mod Runs
 pub mod Project
 pub mod SoundRings
 pub mod SoundActors
+pub mod SoundTable
+pub mod SoundNames
 pub mod Sound
 pub mod Laws
 pub mod Examples

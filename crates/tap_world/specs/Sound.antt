@@ -2,26 +2,21 @@
 use Rattle.std.specs.Prelude.{◌≡◌, ℕ, ◌+◌, ◌-◌, ◌^◌, ◌≤◌, ◌⊎◌, ◌↔◌, ◌==◌, ◌&&◌, max, not, Bool, true, false, if◌then◌else◌, List, [], ◌∷◌, slice_get, Option, Some, None, is_some}
 use Rattle.std.specs.Option.{option_map_or}
 use Rattle.std.specs.List.{AllByRecursion, list_any}
-use Rattle.tap_frame.specs.declared.name.Name.{Name}
 use Rattle.tap_ledger.specs.declared.fate.Fate.TheVariants as fate
 use Rattle.tap_steer.specs.Table.{Table, file_at}
-use Rattle.tap_trace.specs.declared.answer.Answer.{Answer}
-use Rattle.tap_trace.specs.declared.answer.Answer.TheVariants as answer
-use Rattle.tap_trace.specs.declared.turn.ChainText.{ChainText}
-use Rattle.tap_trace.specs.declared.turn.ChainText.TheVariants as chain
+use Rattle.vring_turns.specs.declared.stage.RxStage.{RxStage}
+use Rattle.vring_turns.specs.declared.stage.RxStage.TheVariants as rx
 use Rattle.tap_world.specs.ByNumber.{at}
 use Rattle.tap_world.specs.Guests.{Vhost}
-use Rattle.scen_words.specs.declared.command.Command.{Command}
-use Rattle.scen_words.specs.declared.command.Command.TheVariants as command
-use Rattle.tap_world.specs.Then.{◌>>=◌}
-use Rattle.tap_world.specs.Setup.{Numbered, Setup}
-use Rattle.tap_world.specs.StepTable.{is_enabled}
+use Rattle.tap_world.specs.Setup.{Setup}
 use Rattle.tap_world.specs.Line.{Entry, File, Standing, claimed, count, first_that, freed, in_batch, is_empty, is_kept}
 use Rattle.tap_world.specs.Line.Standing.{Batched, Claimed, Cut, Out, Ready}
-use Rattle.tap_world.specs.World.{Actor, Doing, Said, World, current, name_of, newest, table}
+use Rattle.tap_world.specs.World.{Actor, Doing, World, current, newest, table}
 use Rattle.tap_world.specs.World.Doing.{Backed, Backs, Begun, Changes, Disowned, Opened, Opens, Owns, Placed, Purges, Receives, Released, Resizes, Shrinks, Unbacked, Withdrawn, Withdraws}
 use Rattle.tap_world.specs.SoundActors.{CanBe}
+use Rattle.tap_world.specs.SoundNames.{NamesStandOnce}
 use Rattle.tap_world.specs.SoundRings.{HasRings, IsActor, IsServed, TurnsAreHeld, is_about}
+use Rattle.tap_world.specs.SoundTable.{AgreesWithTable, HasItsBackends, IsAsFound, IsInTable, commanded, writing}
 
 -- ---- each file, each vhost, each actor
 
@@ -33,47 +28,6 @@ EachVhost w P = (vhost : ℕ) (v : Vhost) → at w.vhosts vhost ≡ Some v → P
 
 abbrev pub EachActor : World → (ℕ → Actor → Type 0) → Type 0
 EachActor w P = (actor : ℕ) (a : Actor) → slice_get w.actors actor ≡ Some a → P actor a
-
--- ---- 1: names
-
-abbrev pub same_name : Name → Name → Bool
-same_name a b = a.actor == b.actor && a.turn == b.turn && a.part == b.part
-
--- how often a name stands among names, in a line, in all lines, and anywhere
-abbrev pub times_in : Name → List Name → ℕ
-times_in n [] = 0
-times_in n (m ∷ ms) = (if same_name n m then 1 else 0) + times_in n ms
-
-abbrev pub times_on : Name → List Entry → ℕ
-times_on n [] = 0
-times_on n (e ∷ es) = (if same_name n e.name then 1 else 0) + times_on n es
-
-abbrev pub times_placed : Name → List (Option File) → ℕ
-times_placed n [] = 0
-times_placed n (f ∷ fs) = option_map_or (λ (g : File). times_on n g.line) f 0 + times_placed n fs
-
-abbrev pub times : World → Name → ℕ
-times w n = times_in n w.dropped + times_in n w.hosted + times_placed n w.files
-
--- the accepted names that an answer tells
-abbrev pub got_in : List ChainText → List Name
-got_in [] = []
-got_in (chain.Got name len fnv ∷ cs) = name ∷ got_in cs
-got_in (chain.Refused position bad ∷ cs) = got_in cs
-
-abbrev pub accepted_in : ℕ → ℕ → Answer → List Name
-accepted_in actor n (answer.Placed file place epoch len) = name_of actor n ∷ []
-accepted_in actor n (answer.Dropped file cause) = name_of actor n ∷ []
-accepted_in actor n (answer.Host len fnv) = name_of actor n ∷ []
-accepted_in actor n (answer.Turn packets bytes end chains) = got_in chains
-accepted_in actor n other = []
-
--- Each name stands at most once; and the accepted names of each command that has ended stand.
-pub record NamesStandOnce (w : World) : Type 0 where
-  pub once : (n : Name) → times w n ≤ 1
-  pub ended : AllByRecursion
-      (λ (x : Said). AllByRecursion (λ n. times w n ≡ 1) (accepted_in x.line.actor x.line.command x.line.answer))
-      w.said
 
 -- ---- 2: lines
 
@@ -148,80 +102,18 @@ abbrev pub IsEmptyWhenShut : World → ℕ → File → Type 0
 IsEmptyWhenShut w file f =
     f.shut ≡ true → (is_empty f ≡ true) ⊎ (list_any (λ (a : Actor). is_purging file a.doing) w.actors ≡ true)
 
--- ---- 6: files and the table
-
--- what a file has of the table: its epoch, whether its gate is shut, its owner, its capacity and its resizes
-pub record Agreed : Type 0 where
-  pub epoch : ℕ
-  pub shut : Bool
-  pub owner : Option ℕ
-  pub capacity : ℕ
-  pub resizes : ℕ
-
-abbrev pub has_of : File → Agreed
-has_of f = record { epoch = f.epoch; shut = f.shut; owner = f.owner; capacity = f.capacity; resizes = f.resizes }
-
-abbrev pub of_table : Table → ℕ → Agreed
-of_table t file = record {
-  epoch = (file_at t file).epoch;
-  shut = not (is_enabled (file_at t file).attachment);
-  owner = (file_at t file).rx;
-  capacity = (file_at t file).capacity;
-  resizes = (file_at t file).resizes;
-}
-
--- what the command that holds the writer has on its own file in place of that: a resize has the capacity that it asks
--- for
-abbrev pub expected : Doing → ℕ → ℕ → Agreed → Agreed
-expected (Opened other) asked file x = if other == file then record x { epoch = x.epoch + 1; shut = false } else x
-expected (Withdrawn other version) asked file x = if other == file then record x { shut = false } else x
-expected (Shrinks other places cuts) asked file x =
-    if other == file then record x { capacity = asked; resizes = x.resizes + 1 } else x
-expected (Owns other version) asked file x = if other == file then record x { owner = None } else x
-expected (Disowned other) asked file x = if other == file then record x { owner = None } else x
-expected doing asked file x = x
-
--- the actor that holds the writer, what its command is doing, and the capacity that this asks for
-abbrev pub writer_of : World → Option Actor
-writer_of w = do
-  actor ← w.writer
-  slice_get w.actors actor
-
-abbrev pub writing : World → Doing
-writing w = option_map_or (λ (a : Actor). a.doing) (writer_of w) Begun
-
-abbrev pub asked_by : Command → ℕ
-asked_by (command.Resize file capacity) = capacity
-asked_by other = 0
-
-abbrev pub asked : World → ℕ
-asked w = option_map_or (λ (c : Numbered). asked_by c.command) (writer_of w >>= λ a. current a.script) 0
-
--- A gate has its file's epoch, and is unshut exactly where its file is enabled; the owner is the worker that the table
--- names; capacity and number of resizes are the table's; but for the command that holds the writer.
-abbrev pub AgreesWithTable : Setup → World → ℕ → File → Type 0
-AgreesWithTable s w file f = has_of f ≡ expected (writing w) (asked w) file (of_table (table s w) file)
-
--- a backend is being set or unset on a file
-abbrev pub is_changing : ℕ → Doing → Bool
-is_changing file (Backed other) = other == file
-is_changing file (Unbacked other) = other == file
-is_changing file (Disowned other) = other == file
-is_changing file (Released other) = other == file
-is_changing file doing = false
-
--- A vhost's ring has a file as its backend exactly where the table names that vhost for that file and side, but where
--- the command that holds the writer is setting or unsetting it.
-abbrev pub HasItsBackends : Setup → World → ℕ → Vhost → Type 0
-HasItsBackends s w vhost v =
-    (file : ℕ) → is_changing file (writing w) ≡ false
-    → ((v.settings.rx.file ≡ Some file) ↔ ((file_at (table s w) file).rx ≡ Some vhost))
-    × ((v.settings.tx.file ≡ Some file) ↔ ((file_at (table s w) file).tx ≡ Some vhost))
-
 -- ---- 7: a frame in hand
 
+-- a receive turn has a frame in hand: from the step that takes it until it is out or put back
+abbrev pub has_in_hand : RxStage → Bool
+has_in_hand rx.Begin = false
+has_in_hand rx.Hand = false
+has_in_hand (rx.Publish way) = false
+has_in_hand (rx.Ended way) = false
+has_in_hand stage = true
+
 abbrev pub is_receiving : ℕ → Doing → Bool
-is_receiving file (Receives other t) = other == file && is_some t.held
+is_receiving file (Receives other t) = other == file && has_in_hand t.stage
 is_receiving file doing = false
 
 -- an actor is at a worker's receive turn on the file, with a frame in hand
@@ -274,7 +166,9 @@ pub record IsSound (s : Setup) (w : World) : Type 0 where
   pub epochs : EachFile w (λ file f. HasEpochs f)
   pub shut : EachFile w (IsEmptyWhenShut w)
   pub agrees : EachFile w (AgreesWithTable s w)
+  pub known : EachFile w (IsInTable s w)
   pub backends : EachVhost w (HasItsBackends s w)
+  pub found : IsAsFound (writing w) (commanded w) (table s w)
   pub hand : EachFile w (HandIsOwners w)
   pub rings : EachVhost w (HasRings w)
   pub served : EachVhost w (IsServed w)

@@ -1,10 +1,12 @@
 -- This project's own: how far each command can have come.
-use Rattle.std.specs.Prelude.{ℕ, ◌==◌, ◌≡◌, ◌&&◌, not, Bool, true, false, Some, None}
+use Rattle.std.specs.Prelude.{ℕ, ◌==◌, ◌≡◌, ◌&&◌, ◌||◌, not, Bool, true, false, Option, Some, None, is_none, is_some}
 use Rattle.std.specs.Option.{option_map_or}
 use Rattle.tap_steer.specs.declared.operation.TheConstants.{IFF_ATTACH_QUEUE}
 use Rattle.tap_steer.specs.Table.{is_set}
 use Rattle.scen_words.specs.declared.command.Command.{Command}
 use Rattle.scen_words.specs.declared.command.Command.TheVariants as command
+use Rattle.tap_trace.specs.declared.causes.TapText.{TapText}
+use Rattle.tap_world.specs.Guests.{is_ring}
 use Rattle.tap_world.specs.Setup.{Numbered}
 use Rattle.tap_world.specs.World.{Actor, Doing, current}
 use Rattle.tap_world.specs.World.Doing.{Backed, Backs, Begun, Changes, Disowned, Given, Hosts, Learns, Opened, Opens, Owns, Placed, Purges, Reads, Receives, Released, Resizes, Routed, Shrinks, Teaches, Transmits, Unbacked, Withdrawn, Withdraws}
@@ -54,17 +56,18 @@ abbrev pub writes_to : ℕ → Command → Bool
 writes_to file (command.Write other bytes) = other == file
 writes_to file c = false
 
--- it sets the file as a backend, or unsets one; of a receive ring
-abbrev pub is_back : Command → Bool
-is_back (command.Backend vhost ring file) = true
-is_back c = false
+-- it is a backend, which the table refuses only where it sets one; it sets the file, or unsets one, of a ring that
+-- there is; of a receive ring
+abbrev pub is_back : Option TapText → Command → Bool
+is_back refusal (command.Backend vhost ring file) = is_none refusal || is_some file
+is_back refusal c = false
 
 abbrev pub sets : ℕ → Command → Bool
-sets file (command.Backend vhost ring (Some other)) = other == file
+sets file (command.Backend vhost ring (Some other)) = other == file && is_ring ring
 sets file c = false
 
 abbrev pub unsets : Command → Bool
-unsets (command.Backend vhost ring None) = true
+unsets (command.Backend vhost ring None) = is_ring ring
 unsets c = false
 
 abbrev pub is_of_rx : Command → Bool
@@ -98,7 +101,7 @@ can_be (Placed file place epoch len) c = is_send c
 can_be (Reads file room front) c = reads_from file c
 can_be (Hosts file ether learns) c = writes_to file c
 can_be (Learns file ether) c = writes_to file c
-can_be (Backs refusal) c = is_back c
+can_be (Backs refusal) c = is_back refusal c
 can_be (Backed file) c = sets file c
 can_be (Owns file version) c = sets file c && is_of_rx c
 can_be (Unbacked file) c = unsets c && is_of_rx c

@@ -46,9 +46,13 @@ is_about vhost ring None = false
 is_about vhost ring (Some c) =
     option_map_or (λ (r : ℕ × ℕ). r.0 == vhost && r.1 == ring) (ring_in c.command) false
 
--- Outside a turn nothing of a ring is served and not published; and a ring that is served has a backend.
+-- But for the turn that serves it nothing of a ring is served and not published; and a ring that is served has a
+-- backend.
 pub record IsServed (w : World) (vhost : ℕ) (v : Vhost) : Type 0 where
-  pub idle : (ring : ℕ) → turn_of ring v ≡ None → IsIdle (ring_at ring v.settings).queue.positions
+  pub idle : (ring : ℕ)
+      → ((actor : ℕ) (a : Actor) → turn_of ring v ≡ Some actor → slice_get w.actors actor ≡ Some a
+      → serves a.doing ≡ false)
+      → IsIdle (ring_at ring v.settings).queue.positions
   pub backed : (ring actor : ℕ) (a : Actor) → slice_get w.actors actor ≡ Some a → serves a.doing ≡ true
       → is_about vhost ring (current a.script) ≡ true → is_some (ring_at ring v.settings).file ≡ true
 

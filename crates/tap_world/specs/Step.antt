@@ -18,6 +18,7 @@ use Rattle.tap_world.specs.Effect.{Effect, ending, heard_by, settled, with_effec
 use Rattle.tap_world.specs.StepTable.{looks, publishes}
 use Rattle.tap_world.specs.StepRing.{claims, cuts, drops_for, finds_none, full_now, gone_now, hosts, if_held, leaves, meets_worker, moves, puts, reopens, resizes, shuts, spent_now}
 use Rattle.tap_world.specs.Scripts.{is_kind, next_kind}
+use Rattle.tap_world.specs.Stands.{if_new}
 
 -- ---- rows that several kinds of commands have
 
@@ -85,13 +86,19 @@ row s w event.Peek actor a n c = pokes w a.seen c
 row s w event.Drive actor a n c = drive_row s w actor a.seen a.doing c
 row s w kind actor a n c = turns w actor n a.seen a.doing c
 
--- what an event changes: it has to be the next one of its actor's command
-abbrev pub effect : Setup → World → Event → Option Effect
-effect s w e = do
+-- the row of an event, which has to be the next one of its actor's command
+abbrev pub row_of : Setup → World → Event → Option Effect
+row_of s w e = do
   a ← slice_get w.actors e.actor
   c ← current a.script
   if c.number == e.command && is_kind e.kind (next_kind w a.doing c.command)
       then row s w e.kind e.actor a c.number c.command else None
+
+-- what an event changes: the names that it drops, hosts or places stand nowhere yet
+abbrev pub effect : Setup → World → Event → Option Effect
+effect s w e = do
+  r ← row_of s w e
+  if_new w r
 
 -- the world after an effect, with the detach that ends by it, and what the event answers
 abbrev pub stepped : Effect → Event → Actor → World → Option (World × Heard)

@@ -3,13 +3,13 @@
 //! A run is a list of [`Event`]s, phase by phase. `specs/Setup.antt` says what a scenario lays down,
 //! `specs/Line.antt` and `specs/LineSteps.antt` what a file's line is and how one step changes it,
 //! `specs/Guests.antt` what a guest and a vhost are, `specs/World.antt` what a world holds, and `specs/Effect.antt`
-//! what an event changes, as data. The rows of events: `specs/StepTable.antt`, `specs/StepRing.antt`,
-//! `specs/StepControl.antt`, `specs/StepBackend.antt`, `specs/StepTurns.antt`, `specs/StepTransmits.antt`; all of
-//! them: `specs/Step.antt`. `specs/Commands.antt` is the table of the events of each command, in the forms of
-//! `specs/Grammar.antt`; `specs/Scripts.antt` says which event a command has next, `specs/Runs.antt` what a run is
-//! and which one a seed picks, `specs/Sound.antt` and `specs/SoundRings.antt` what is to hold in every world of a
-//! run, `specs/Project.antt` the trace of a run, `specs/Laws.antt` what this means, and `specs/Examples.antt` a
-//! worked run.
+//! what an event changes, as data; `specs/Stands.antt` where names stand. The rows of events:
+//! `specs/StepTable.antt`, `specs/StepRing.antt`, `specs/StepControl.antt`, `specs/StepBackend.antt`,
+//! `specs/StepTurns.antt`, `specs/StepTransmits.antt`; all of them: `specs/Step.antt`. `specs/Commands.antt` is the
+//! table of the events of each command, in the forms of `specs/Grammar.antt`; `specs/Scripts.antt` says which event
+//! a command has next, `specs/Runs.antt` what a run is and which one a seed picks, `specs/Sound.antt` and
+//! `specs/SoundRings.antt` what is to hold in every world of a run, `specs/Project.antt` the trace of a run,
+//! `specs/Laws.antt` what this means, and `specs/Examples.antt` a worked run.
 #![tactic(auto)]
 
 mod event;

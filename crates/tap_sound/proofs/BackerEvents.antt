@@ -1,0 +1,238 @@
+-- Every event keeps which files are backends of rings.
+use Rattle.std.proofs.Common.{◌≡◌, ◌⊎◌, ℕ, ◌+◌, List, [], ◌∷◌, ◌++◌, map, Bool, true, false, Option, Some, None, inl, inr, ⊎_elim, refl, sym, ap, ◌∙◌, subst, true≢false, ◌<◌, length}
+use Rattle.std.specs.Prelude.{if◌then◌else◌, ◌==◌, ◌||◌, is_none, is_some, not, option_map, drop, ◌&&◌}
+use Rattle.guest_mem.specs.Memory.{Contents}
+use Rattle.tap_steer.specs.declared.error.TapErr.{TapErr}
+use Rattle.tap_steer.specs.declared.operation.Op.{Op}
+use Rattle.tap_steer.specs.declared.operation.TheConstants.{IFF_ATTACH_QUEUE}
+use Rattle.tap_steer.specs.Table.{Table, file_at, is_set}
+use Rattle.tap_steer.specs.Rules.{backer, refuse}
+use Rattle.tap_steer.specs.After.{after, after_all, back}
+use Rattle.vhost_dev.specs.declared.error.VhostErr.{VhostErr}
+use Rattle.vhost_dev.specs.Refusals.{number_refusal, ready_refusal}
+use Rattle.vhost_dev.specs.Settings.{ring_at}
+use Rattle.scen_words.specs.declared.command.Command.{Command}
+use Rattle.tap_trace.specs.declared.answer.Answer.{Answer}
+use Rattle.tap_trace.specs.declared.causes.TapText.{TapText}
+use Rattle.tap_world.specs.declared.event.Event.{Event}
+use Rattle.tap_world.specs.Causes.{tap_text}
+use Rattle.tap_world.specs.Setup.{Setup, op_of, opening_table}
+use Rattle.tap_world.specs.Guests.{Vhost, is_ring, with_turn}
+use Rattle.tap_world.specs.World.{Actor, Doing, Published, World, newest, table}
+use Rattle.tap_world.specs.World.Doing.{Backed, Backs, Begun, Changes, Disowned, Opened, Opens, Owns, Purges, Released, Resizes, Shrinks, Unbacked, Withdrawn, Withdraws}
+use Rattle.tap_world.specs.Effect.{Effect, OnFiles, Onward, files_after, only, ended, OnVhosts, vhosts_after}
+use Rattle.tap_world.specs.Effect.OnFiles.{NoFile, OnFile}
+use Rattle.tap_world.specs.Effect.Onward.{Ends, Goes, Stays}
+use Rattle.tap_world.specs.LineSteps.Change.{Owned, Cuts, Reopens, Shuts, Sizes}
+use Rattle.tap_world.specs.Sound.{EachActor, WriterIsHeld, holds}
+use Rattle.tap_world.specs.SoundActors.{can_be}
+use Rattle.tap_world.specs.SoundTable.{Agreed, IsAsFound, asked_by, commanded, expected, of_table, writing, backer_by, is_on, is_rx_side}
+use Rattle.tap_sound.proofs.Kit.{either, some_same, then_some}
+use Rattle.tap_sound.proofs.Agreeing.{Files, Fits, goes_on, reopening, shutting, sizing, steady}
+use Rattle.tap_sound.proofs.Kept.{effect_files, effect_ops}
+use Rattle.tap_sound.proofs.Publishing.{equal, publishing, sets_rx, sets_tx, unsets_rx, unsets_tx, withdrawing}
+use Rattle.tap_sound.proofs.Shapes.{Alike, IsLast, Shape}
+use Rattle.tap_sound.proofs.Shapes.Shape.{Approves, BackApproves, BackDrives, BackPublishes, Calling, Learning, Owning, Publishing, Quiet, Reopening, RxTurning, Shutting, Sizing, Touching, Trims, TxTurning, Withdrawing}
+use Rattle.tap_sound.proofs.Standing.{answered, first_passed, ring_there}
+use Rattle.tap_sound.proofs.TableFiles.{back_finds, detach_finds, learn_same}
+use Rattle.tap_sound.proofs.Taken.{IsEnding, IsStep, both, when_settled}
+use Rattle.tap_sound.proofs.Views.{Is, View, ending_view, view}
+use Rattle.tap_sound.proofs.Views.View.{Aside, Begins, Closes, Within}
+use Rattle.tap_sound.proofs.Writers.{course_is, doing_after, rx_free, rx_holds, tx_free, tx_holds, unset_refusal, last_holds}
+use Rattle.tap_world.specs.Line.{claimed}
+use Rattle.tap_sound.proofs.TableKept.{FitsWorld, alike_view, aside, asked_is, at_view, back_found, back_publishes, begins, closes, course_found, doing_on, drives, files_on, goes_last, goes_within, on_files, ops_on, owns, passes, passes_still, steady_here, into, onto, table_on, within}
+use Rattle.std.specs.Option.{option_map_or}
+use Rattle.tap_ledger.specs.declared.side.Side.{Side}
+use Rattle.tap_ledger.specs.declared.side.Side.TheVariants.{Rx, Tx}
+use Rattle.vhost_dev.specs.Calls.{without_backend}
+use Rattle.tap_world.specs.ByNumber.{at, with_at}
+use Rattle.tap_world.specs.Effect.OnVhosts.{NoVhost, OnVhost}
+use Rattle.tap_sound.proofs.Backers.{FromOld, HaveBackends, SameFiles, Vhosts, back_backs, call_files, files_backers, no_vhost, one_vhost, op_backs, queue_files, same_backs, set_backs, turn_files, unset_backs}
+use Rattle.tap_sound.proofs.Calls.{called_is}
+use Rattle.tap_sound.proofs.Turns.{effect_vhosts}
+use Rattle.tap_steer.specs.declared.operation.Op.TheVariants as op
+use Rattle.tap_steer.specs.Select as steer
+use Rattle.scen_words.specs.declared.command.Command.TheVariants as command
+use Rattle.tap_world.specs.declared.event.Found.TheVariants as found
+use Rattle.tap_world.specs.StepBackend as back_steps
+use Rattle.tap_world.specs.StepTable as tables
+use Rattle.tap_sound.proofs.Shapes as shapes
+use Rattle.tap_world.specs.StepTurns as rx_turns
+use Rattle.tap_world.specs.StepTransmits as tx_turns
+
+abbrev pub Backings : Setup → World → Type 0
+Backings s w = HaveBackends (writing w) (commanded w) (table s w) w.vhosts
+
+into_backs : (w : World) (d : Doing) (c : Option Command) (t : Table) (vhosts : Vhosts) → Is w d c → HaveBackends (writing w) (commanded w) t vhosts → HaveBackends d c t vhosts
+into_backs w d c t vhosts is h = subst (λ (x : Doing). HaveBackends x c t vhosts) is.0 (subst (λ (k : Option Command). HaveBackends (writing w) k t vhosts) is.1 h)
+
+onto_backs : (v : World) (d : Doing) (c : Option Command) (t : Table) (vhosts : Vhosts) → Is v d c → HaveBackends d c t vhosts → HaveBackends (writing v) (commanded v) t vhosts
+onto_backs v d c t vhosts is h = subst (λ (x : Doing). HaveBackends x (commanded v) t vhosts) (sym is.0) (subst (λ (k : Option Command). HaveBackends d k t vhosts) (sym is.1) h)
+
+module _ (s : Setup) (w : World) (x : Event) (u : World) (t : IsStep s w x u) where
+
+  vhosts_on : (o : OnVhosts) → t.effect.vhosts ≡ o → t.between.vhosts ≡ vhosts_after o w.vhosts
+  vhosts_on o is = effect_vhosts t.effect x.actor t.actor x.command w t.between t.made ∙ ap (λ (q : OnVhosts). vhosts_after q w.vhosts) is
+
+  on_vhosts : (r : Effect) → r ≡ t.effect → t.effect.vhosts ≡ r.vhosts
+  on_vhosts r is = ap (λ (q : Effect). q.vhosts) (sym is)
+
+  from_none : t.effect.vhosts ≡ NoVhost → FromOld w.vhosts t.between.vhosts
+  from_none is = subst (FromOld w.vhosts) (sym (vhosts_on NoVhost is)) (no_vhost w.vhosts)
+
+  from_one : (vhost : ℕ) (v new : Vhost) → t.effect.vhosts ≡ OnVhost vhost new → at w.vhosts vhost ≡ Some v → SameFiles v new → FromOld w.vhosts t.between.vhosts
+  from_one vhost v new is at_ same = subst (FromOld w.vhosts) (sym (vhosts_on (OnVhost vhost new) is)) (one_vhost vhost v new w.vhosts at_ same)
+
+  from_over : (vhost ring : ℕ) → t.effect.vhosts ≡ option_map_or (λ v. OnVhost vhost (with_turn ring None v)) (at w.vhosts vhost) NoVhost → FromOld w.vhosts t.between.vhosts
+  from_over vhost ring is = go (at w.vhosts vhost) refl is
+    where
+      go : (o : Option Vhost) → at w.vhosts vhost ≡ o → t.effect.vhosts ≡ option_map_or (λ v. OnVhost vhost (with_turn ring None v)) o NoVhost → FromOld w.vhosts t.between.vhosts
+      go None at_ same = from_none same
+      go (Some v) at_ same = from_one vhost v (with_turn ring None v) same at_ (turn_files ring None v)
+
+  -- the vhosts have the files that they had, and the table has the backers that it was to have
+  even : (d e : Doing) (c k : Option Command) (ops : List Op) → Is w d c → Is t.between e k → t.effect.ops ≡ ops → FromOld w.vhosts t.between.vhosts
+      → ((q : Side) (n : ℕ) → backer_by e k q n (backer q (file_at (after_all (table s w) ops) n)) ≡ backer_by d c q n (backer q (file_at (table s w) n)))
+      → Backings s w → Backings s t.between
+  even d e c k ops was is published from same h =
+      onto_backs t.between e k (table s t.between) t.between.vhosts is
+      (subst (λ (q : Table). HaveBackends e k q t.between.vhosts) (sym (table_on s w x u t ops published))
+      (same_backs d e c k (table s w) (after_all (table s w) ops) w.vhosts t.between.vhosts from same (into_backs w d c (table s w) w.vhosts was h)))
+
+  steady_backs : (ops : List Op) → (writing t.between ≡ writing w) × (commanded t.between ≡ commanded w) → t.effect.ops ≡ ops
+      → (after_all (table s w) ops).files ≡ (table s w).files → FromOld w.vhosts t.between.vhosts → Backings s w → Backings s t.between
+  steady_backs ops same published files from h =
+      even (writing w) (writing w) (commanded w) (commanded w) ops (refl, refl) same published from
+      (λ q n. ap (backer_by (writing w) (commanded w) q n) (files_backers (table s w) (after_all (table s w) ops) files q n)) h
+
+  free_backs : View w t.between t.actor.doing (doing_after t.effect.onward t.actor.doing) t.now.command → holds t.actor.doing ≡ false
+      → holds (doing_after t.effect.onward t.actor.doing) ≡ false → t.effect.ops ≡ [] → FromOld w.vhosts t.between.vhosts → Backings s w → Backings s t.between
+  free_backs view_ a b none from h = steady_backs [] (aside w t.between _ _ t.now.command view_ a b) none refl from h
+
+  -- publications of a backend
+  set_published : (file vhost ring : ℕ) (asked : Option ℕ) → file < length (table s w).files
+      → View w t.between (Backed file) (doing_after t.effect.onward (Backed file)) (command.Backend vhost ring asked) → (b : Bool) → (ring == 0) ≡ b
+      → (if b then record
+      (only (Goes (newest w + 1) (Owns file (newest w + 1)) (found.Version (newest w + 1))) w) { ops = op.Back file (back_steps.side_of ring) (Some vhost) ∷ [] }
+      else record (back_steps.back_over w (newest w + 1) vhost ring (newest w + 1)) { ops = op.Back file (back_steps.side_of ring) (Some vhost) ∷ [] }) ≡ t.effect
+      → Backings s w → Backings s t.between
+  set_published file vhost ring asked there view_ true is eq h =
+      let v = goes_within s w x u t (Backed file) (Owns file (newest w + 1)) (command.Backend vhost ring asked) _ eq view_ refl refl refl in
+      even (Backed file) (Owns file (newest w + 1)) (Some (command.Backend vhost ring asked)) (Some (command.Backend vhost ring asked))
+      (op.Back file (back_steps.side_of ring) (Some vhost) ∷ []) v.0 v.1 (ops_on s w x u t _ eq) (from_none (on_vhosts _ eq)) (back_backs (table s w) file ring (Some vhost) (inl there)) h
+  set_published file vhost ring asked there view_ false is eq h =
+      let v = goes_last s w x u t (Backed file) (command.Backend vhost ring asked) _ eq view_ refl refl in
+      even (Backed file) Begun (Some (command.Backend vhost ring asked)) None
+      (op.Back file (back_steps.side_of ring) (Some vhost) ∷ []) v.0 v.1 (ops_on s w x u t _ eq) (from_over vhost ring (on_vhosts _ eq))
+      (back_backs (table s w) file ring (Some vhost) (inl there)) h
+
+  back_published : (d : Doing) (vhost ring : ℕ) (asked : Option ℕ) → IsAsFound d (Some (command.Backend vhost ring asked)) (table s w)
+      → View w t.between d (doing_after t.effect.onward d) (command.Backend vhost ring asked)
+      → can_be d (command.Backend vhost ring asked) ≡ true → back_steps.publishes_back w d (command.Backend vhost ring asked) ≡ Some t.effect → Backings s w → Backings s t.between
+  back_published (Backed file) vhost ring asked f view_ can e h = set_published file vhost ring asked f.0 view_ (ring == 0) refl (some_same _ t.effect e) h
+  back_published (Disowned file) vhost ring asked f view_ can e h =
+      let eq = some_same _ t.effect e in
+      let v = goes_last s w x u t (Disowned file) (command.Backend vhost ring asked) _ eq view_ refl refl in
+      even (Disowned file) Begun (Some (command.Backend vhost ring asked)) None (op.Back file (back_steps.side_of ring) None ∷ []) v.0 v.1 (ops_on s w x u t _ eq)
+      (from_over vhost ring (on_vhosts _ eq))
+      (λ q n. back_backs (table s w) file ring None (inr refl) q n ∙ ap (λ (b : Bool). if file == n && b then None else backer q (file_at (table s w) n)) (rx_on asked can q)) h
+    where
+      rx_on : (o : Option ℕ) → can_be (Disowned file) (command.Backend vhost ring o) ≡ true → (q : Side) → is_on q ring ≡ is_rx_side q
+      rx_on None k Rx = (both _ _ k).1
+      rx_on None k Tx = ap not (both (is_ring ring) (ring == 0) k).1
+      rx_on (Some n) k q = absurd (true≢false (sym k))
+  back_published (Released file) vhost ring asked f view_ can e h =
+      let eq = some_same _ t.effect e in
+      let v = goes_last s w x u t (Released file) (command.Backend vhost ring asked) _ eq view_ refl refl in
+      even (Released file) Begun (Some (command.Backend vhost ring asked)) None (op.Back file (back_steps.side_of ring) None ∷ []) v.0 v.1 (ops_on s w x u t _ eq)
+      (from_over vhost ring (on_vhosts _ eq))
+      (λ q n. back_backs (table s w) file ring None (inr refl) q n ∙ ap (λ (b : Bool). if file == n && b then None else backer q (file_at (table s w) n)) (tx_on asked can q)) h
+    where
+      false_of : (b : Bool) → not b ≡ true → b ≡ false
+      false_of true k = absurd (true≢false (sym k))
+      false_of false k = refl
+
+      tx_on : (o : Option ℕ) → can_be (Released file) (command.Backend vhost ring o) ≡ true → (q : Side) → is_on q ring ≡ not (is_rx_side q)
+      tx_on None k Rx = false_of (ring == 0) (both _ _ k).1
+      tx_on None k Tx = (both (is_ring ring) (not (ring == 0)) k).1
+      tx_on (Some n) k q = absurd (true≢false (sym k))
+  back_published d vhost ring asked f view_ can e h = absurd (cc (e))
+
+  owned : (d : Doing) (vhost ring : ℕ) (asked : Option ℕ) → View w t.between d (doing_after t.effect.onward d) (command.Backend vhost ring asked)
+      → back_steps.owns w t.actor.seen d (command.Backend vhost ring asked) ≡ Some t.effect → Backings s w → Backings s t.between
+  owned (Owns file version) vhost ring asked view_ e h =
+      let eq = some_same _ t.effect e in
+      let v = goes_last s w x u t (Owns file version) (command.Backend vhost ring asked) _ eq view_ refl refl in
+      even (Owns file version) Begun (Some (command.Backend vhost ring asked)) None [] v.0 v.1 (ops_on s w x u t _ eq) (from_over vhost ring (on_vhosts _ eq)) (λ q n. refl) h
+  owned (Unbacked file) vhost ring asked view_ e h =
+      let eq = some_same _ t.effect e in
+      let v = goes_within s w x u t (Unbacked file) (Disowned file) (command.Backend vhost ring asked) _ eq view_ refl refl refl in
+      even (Unbacked file) (Disowned file) (Some (command.Backend vhost ring asked)) (Some (command.Backend vhost ring asked)) [] v.0 v.1 (ops_on s w x u t _ eq)
+      (from_none (on_vhosts _ eq)) (λ q n. refl) h
+  owned d vhost ring asked view_ e h = absurd (cc (e))
+
+  -- a backend at its Drive
+  ended_back : (refusal : Option TapText) (c : Command) → View w t.between (Backs refusal) (doing_after t.effect.onward (Backs refusal)) c
+      → doing_after t.effect.onward (Backs refusal) ≡ Begun → t.effect.ops ≡ [] → FromOld w.vhosts t.between.vhosts → Backings s w → Backings s t.between
+  ended_back None c view_ is none from h =
+      let v = closes w t.between (Backs None) Begun c (at_view w t.between (Backs None) (Backs None) _ Begun c refl is view_) refl refl in
+      even (Backs None) Begun (Some c) None [] v.0 v.1 none from (λ q n. refl) h
+  ended_back (Some r) c view_ is none from h =
+      steady_backs [] (aside w t.between (Backs (Some r)) Begun c (at_view w t.between (Backs (Some r)) (Backs (Some r)) _ Begun c refl is view_) refl refl) none refl from h
+
+  from_ends : (vhost ring : ℕ) (refusal : Option TapText) (v : Vhost) → at w.vhosts vhost ≡ Some v
+      → t.effect.vhosts ≡ OnVhost vhost (if is_ring ring && is_none refusal then with_turn ring None v else v) → FromOld w.vhosts t.between.vhosts
+  from_ends vhost ring refusal v at_ is = go (is_ring ring && is_none refusal) is
+    where
+      go : (b : Bool) → t.effect.vhosts ≡ OnVhost vhost (if b then with_turn ring None v else v) → FromOld w.vhosts t.between.vhosts
+      go true same = from_one vhost v (with_turn ring None v) same at_ (turn_files ring None v)
+      go false same = from_one vhost v v same at_ (λ q. refl)
+
+  unset_backings : (vhost ring : ℕ) (v : Vhost) (m : Contents) (a : Option VhostErr) (o : Option ℕ) → at w.vhosts vhost ≡ Some v → (ring_at ring v.settings).file ≡ o
+      → View w t.between (Backs None) (doing_after t.effect.onward (Backs None)) (command.Backend vhost ring None)
+      → back_steps.unsets_back w x.actor t.actor.seen vhost ring v m a o ≡ t.effect → Backings s w → Backings s t.between
+  unset_backings vhost ring v m (Some a) o at_ has view_ eq h =
+      ended_back None (command.Backend vhost ring None) view_ (doing_on s w x u t _ eq (Backs None)) (ops_on s w x u t _ eq) (from_ends vhost ring None v at_ (on_vhosts _ eq)) h
+  unset_backings vhost ring v m None None at_ has view_ eq h =
+      ended_back None (command.Backend vhost ring None) view_ (doing_on s w x u t _ eq (Backs None)) (ops_on s w x u t _ eq) (from_ends vhost ring None v at_ (on_vhosts _ eq)) h
+  unset_backings vhost ring v m None (Some file) at_ has view_ eq h = go (ring == 0) refl (doing_on s w x u t _ eq (Backs None))
+    where
+      c : Command
+      c = command.Backend vhost ring None
+
+      unset : (d : Doing) → holds d ≡ true → doing_after t.effect.onward (Backs None) ≡ d
+          → ((q : Side) (n : ℕ) (o : Option ℕ) → backer_by d (Some c) q n o ≡ (if file == n && is_on q ring then None else o)) → Backings s t.between
+      unset d hold is by =
+          let v2 = within w t.between (Backs None) d c (at_view w t.between (Backs None) (Backs None) _ d c refl is view_) refl hold in
+          onto_backs t.between d (Some c) (table s t.between) t.between.vhosts v2.1
+          (subst (λ (q : Table). HaveBackends d (Some c) q t.between.vhosts) (sym (table_on s w x u t [] (ops_on s w x u t _ eq)))
+          (subst (HaveBackends d (Some c) (table s w)) (sym (vhosts_on (OnVhost vhost (record v { settings = without_backend ring v.settings })) (on_vhosts _ eq)))
+          (unset_backs d (Some c) (Some c) vhost ring file v (table s w) w.vhosts at_ has by (into_backs w (Backs None) (Some c) (table s w) w.vhosts v2.0 h))))
+
+      go : (b : Bool) → (ring == 0) ≡ b → doing_after t.effect.onward (Backs None) ≡ (if b then Unbacked file else Released file) → Backings s t.between
+      go true zero_ is = unset (Unbacked file) refl is (λ q n o. ap (λ (b : Bool). if file == n && b then None else o) (sym (rx_on q)))
+        where
+          rx_on : (q : Side) → is_on q ring ≡ is_rx_side q
+          rx_on Rx = zero_
+          rx_on Tx = ap not zero_
+      go false one_ is = unset (Released file) refl is (λ q n o. ap (λ (b : Bool). if file == n && b then None else o) (sym (tx_on q)))
+        where
+          tx_on : (q : Side) → is_on q ring ≡ not (is_rx_side q)
+          tx_on Rx = one_
+          tx_on Tx = ap not one_
+
+  set_backings : (vhost ring file : ℕ) (refusal : Option TapText) (v : Vhost) (m : Contents) (a : Option Answer) → at w.vhosts vhost ≡ Some v
+      → (a ≡ None → ((ring_at ring v.settings).file ≡ None) × (is_ring ring ≡ true) × (refusal ≡ None)) → IsAsFound (Backs refusal) (Some (command.Backend vhost ring (Some file))) (table s w)
+      → View w t.between (Backs refusal) (doing_after t.effect.onward (Backs refusal)) (command.Backend vhost ring (Some file))
+      → back_steps.sets_back w x.actor t.actor.seen vhost ring file refusal v m a ≡ t.effect → Backings s w → Backings s t.between
+  set_backings vhost ring file refusal v m (Some a) at_ there f view_ eq h =
+      ended_back refusal (command.Backend vhost ring (Some file)) view_ (doing_on s w x u t _ eq (Backs refusal)) (ops_on s w x u t _ eq) (from_ends vhost ring refusal v at_ (on_vhosts _ eq)) h
+  set_backings vhost ring file (Some r) v m None at_ there f view_ eq h = absurd (cc ((there refl).2))
+  set_backings vhost ring file None v m None at_ there f view_ eq h =
+      let c : Command = command.Backend vhost ring (Some file) in
+      let k = there refl in
+      let v2 = within w t.between (Backs None) (Backed file) c (at_view w t.between (Backs None) (Backs None) _ (Backed file) c refl (doing_on s w x u t _ eq (Backs None)) view_) refl refl in
+      onto_backs t.between (Backed file) (Some c) (table s t.between) t.between.vhosts v2.1
+      (subst (λ (q : Table). HaveBackends (Backed file) (Some c) q t.between.vhosts) (sym (table_on s w x u t [] (ops_on s w x u t _ eq)))
+      (subst (HaveBackends (Backed file) (Some c) (table s w)) (sym (vhosts_on (OnVhost vhost _) (on_vhosts _ eq)))
+      (set_backs vhost ring file v m (table s w) w.vhosts at_ k.0 (f k.1).1 (into_backs w (Backs None) (Some c) (table s w) w.vhosts v2.0 h))))
