@@ -57,14 +57,6 @@ chains_take laws (field ∷ behind) chains e =
 
 -- ---- what is written is read
 
-end_again : Laws → (t : TurnText) → FitEnd t → (first_by end_word_of (end_fields t) >>= λ w. end_behind w.0 w.1) ≡ Some t
-unfolding end_behind short_in stopped_in
-end_again laws ends.Idle h = word_again end_field end_word.Idle _ end_behind _ refl
-end_again laws (ends.Short m n) h = word_again end_field end_word.Short _ end_behind _ (rw ((numbers32 laws).again m h.0, (numbers64 laws).again n h.1) refl)
-end_again laws ends.Again h = word_again end_field end_word.Again _ end_behind _ refl
-end_again laws (ends.Stopped n) h = word_again end_field end_word.Stopped _ end_behind _ (rw ((numbers8 laws).again n h) refl)
-end_again laws ends.Off h = word_again end_field end_word.Off _ end_behind _ refl
-
 turn_again : Laws → (p b : ℕ) (t : TurnText) → FitAnswer (answer.Turn p b t []) → turn_in (decimal p ∷ decimal b ∷ end_fields t) ≡ Some (answer.Turn p b t [])
 unfolding turn_in
 turn_again laws p b t h =
@@ -114,14 +106,6 @@ done_takes laws [] a e =
 done_takes laws (field ∷ behind) a e =
     takes_first (numbers64 laws) (λ v. ended v.1 >>= λ end. Some (answer.Version v.0)) (λ x fields. IsWritten FitBare answer_fields x (codes "ok" ∷ fields))
     (λ v h. takes_end (answer.Version v) _ ((h, tt), refl)) (field ∷ behind) a (as_first (number_to 18446744073709551615 field) behind _ ∙ e)
-
-end_takes : Laws → (w : EndWord) (fields : List (List ℕ)) (t : TurnText) → end_behind w fields ≡ Some t → IsWritten FitEnd end_fields t (end_spelling w ∷ fields) × AreClean fields
-unfolding end_behind short_in stopped_in
-end_takes laws end_word.Idle = takes_end ends.Idle _ (tt, refl)
-end_takes laws end_word.Short = takes_first (numbers32 laws) _ _ (λ m hm. takes_first (numbers64 laws) _ _ (λ n hn. takes_end (ends.Short m n) _ ((hm, hn), refl)))
-end_takes laws end_word.Again = takes_end ends.Again _ (tt, refl)
-end_takes laws end_word.Stopped = takes_first (numbers8 laws) _ _ (λ n h. takes_end (ends.Stopped n) _ (h, refl))
-end_takes laws end_word.Off = takes_end ends.Off _ (tt, refl)
 
 turn_takes : Laws → (fields : List (List ℕ)) (a : Answer) → turn_in fields ≡ Some a → IsWritten FitBare answer_fields a (codes "turn" ∷ fields) × AreClean fields
 unfolding turn_in

@@ -65,27 +65,6 @@ fault_in fields = do
   end ← ended addr.1
   Some (answer.Fault addr.0)
 
-unfoldable pub short_in : List (List ℕ) → Option TurnText
-short_in fields = do
-  need ← number32 fields
-  had ← number64 need.1
-  end ← ended had.1
-  Some (ends.Short need.0 had.0)
-
-unfoldable pub stopped_in : List (List ℕ) → Option TurnText
-stopped_in fields = do
-  fault ← number8 fields
-  end ← ended fault.1
-  Some (ends.Stopped fault.0)
-
--- how a turn ended
-unfoldable pub end_behind : EndWord → List (List ℕ) → Option TurnText
-end_behind end_word.Idle fields = ended fields >>= λ end. Some ends.Idle
-end_behind end_word.Short fields = short_in fields
-end_behind end_word.Again fields = ended fields >>= λ end. Some ends.Again
-end_behind end_word.Stopped fields = stopped_in fields
-end_behind end_word.Off fields = ended fields >>= λ end. Some ends.Off
-
 unfoldable pub turn_in : List (List ℕ) → Option Answer
 turn_in fields = do
   packets ← number32 fields

@@ -115,17 +115,6 @@ fn fault(fields: Fields<'_>) -> Option<Answer>
     Some(Answer::Fault { addr })
 }
 
-// NEED HAD.
-#[tactic(auto, unfolding(crate::specs::AnswerReading::short_in))]
-fn short(fields: Fields<'_>) -> Option<TurnText>
-    ensures { result ≡ short_in fields.entry }
-{
-    let (need, fields) = number32(fields)?;
-    let (had, fields) = number64(fields)?;
-    ended(fields)?;
-    Some(TurnText::Short { need, had })
-}
-
 // Nothing.
 #[tactic(auto, unfolding(crate::specs::AnswerReading::answer_behind))]
 fn no_driver(fields: Fields<'_>) -> Option<Answer>
@@ -133,39 +122,6 @@ fn no_driver(fields: Fields<'_>) -> Option<Answer>
 {
     ended(fields)?;
     Some(Answer::NoDriver)
-}
-
-// N.
-#[tactic(auto, unfolding(crate::specs::AnswerReading::stopped_in))]
-fn stopped(fields: Fields<'_>) -> Option<TurnText>
-    ensures { result ≡ stopped_in fields.entry }
-{
-    let (fault, fields) = number8(fields)?;
-    ended(fields)?;
-    Some(TurnText::Stopped(fault))
-}
-
-// What stands behind the word for how a turn ended.
-#[tactic(auto, unfolding(crate::specs::AnswerReading::end_behind))]
-fn end_behind(word: EndWord, fields: Fields<'_>) -> Option<TurnText>
-    ensures { result ≡ end_behind word fields.entry }
-{
-    match word {
-        EndWord::Idle => {
-            ended(fields)?;
-            Some(TurnText::Idle)
-        }
-        EndWord::Short => short(fields),
-        EndWord::Again => {
-            ended(fields)?;
-            Some(TurnText::Again)
-        }
-        EndWord::Stopped => stopped(fields),
-        EndWord::Off => {
-            ended(fields)?;
-            Some(TurnText::Off)
-        }
-    }
 }
 
 // PACKETS BYTES END.
