@@ -1,7 +1,5 @@
 -- Operations: what is written is read again, and what was read is written so.
 use Rattle.std.proofs.Common.{◌≡◌, ℕ, ◌%◌, ◌^◌, ◌<◌, Bool, true, false, eqb, not, List, [], ◌∷◌, length, Option, Some, None, Result, Ok, Err, refl, ap, subst, sym, ◌∙◌, arith}
-use Rattle.std.specs.Prelude.{codes}
-use Rattle.std.specs.Fmt.{decimal}
 use Rattle.std.specs.List.{list_all}
 use Rattle.std.proofs.lemmas.Bool.{and_from, and_parts}
 use Rattle.tap_trace.specs.declared.trace.OpText.{OpText}
@@ -25,10 +23,9 @@ use Rattle.trace_causes.specs.Fits.{FitOp}
 use Rattle.trace_causes.specs.OpReading.{back_in, learn_in, op_behind, op_text_in, setiff_in, words_from, words_in}
 use Rattle.trace_causes.specs.Laws.{AreClean, IsPart}
 use Rattle.trace_causes.specs.Operations.{op_fields}
-use Rattle.trace_causes.specs.Reading.{◌>>=◌, first_by}
 use Rattle.trace_causes.specs.Words.{op_spelling, table_word}
 use Rattle.trace_causes.proofs.Chains.{IsWritten, takes_end, takes_first, word_again}
-use Rattle.trace_causes.proofs.FieldLaws.{Laws, device_names, eight_digits, four_digits, numbers16, numbers32, numbers64, numbers_or_dash, numbers_to}
+use Rattle.trace_causes.proofs.FieldLaws.{Laws, device_names, eight_digits, four_digits, numbers16, numbers_or_dash, numbers_to}
 use Rattle.trace_causes.proofs.WordLaws.{op_field, side_field}
 
 -- what the crates below say of forms and commands

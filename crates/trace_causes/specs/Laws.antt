@@ -1,11 +1,10 @@
 -- This project's own: what fields and causes have to do with what they say: what is written for a value is read as it,
 -- and what is read of fields is written so.
-use Rattle.std.specs.Prelude.{◌≡◌, ℕ, ◌<◌, Bool, true, List, Option, Some}
+use Rattle.std.specs.Prelude.{◌≡◌, ℕ, ◌<◌, true, List, Option, Some}
 use Rattle.std.specs.Fmt.{decimal}
 use Rattle.std.specs.Int.{w32}
 use Rattle.std.specs.List.{AllByRecursion, list_all}
 use Rattle.hex.specs.Hex.{encode_lower}
-use Rattle.tap_ledger.specs.declared.fate.Cause.{Cause}
 use Rattle.text_fields.specs.Hexadecimal.{AreBytes, bytes_of, hex_number_of}
 use Rattle.text_fields.specs.Lines.{is_field_byte}
 use Rattle.scen_words.specs.Field.{frame_name}

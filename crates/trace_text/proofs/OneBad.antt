@@ -11,7 +11,7 @@ begins_less ls m n le b = (
   b.1,
   drop m (take n ls) ++ b.2,
   b.3 ∙ ap (λ (x : List (List ℕ)). x ++ b.2) (sym (take-append-drop m (take n ls)) ∙ ap (λ (x : List (List ℕ)). x ++ drop m (take n ls)) (take-take m n ls le))
-  ∙ append_assoc (take m ls) (drop m (take n ls)) b.2,
+      ∙ append_assoc (take m ls) (drop m (take n ls)) b.2,
 )
 
 -- behind the first bad line no line is the first bad one

@@ -14,5 +14,4 @@ pub fn one_text()
 /// The first bad line of a text is one.
 pub fn one_bad_line()
     ensures { OneBadLine }
-{
-}
+{}

@@ -6,7 +6,7 @@ use Rattle.std.specs.Str.{bytes_eq}
 use Rattle.std.proofs.lemmas.Bool.{and_parts, and_from}
 use Rattle.std.proofs.lemmas.Slice.Eq.{bytes_eq-Decides}
 use Rattle.text_fields.specs.Lines.{is_field_byte}
-use Rattle.trace_causes.specs.Laws.{AreClean, IsClean, IsField, IsPart}
+use Rattle.trace_causes.specs.Laws.{AreClean, IsClean, IsField}
 use Rattle.trace_causes.specs.Reading.{◌>>=◌, ended, first_by}
 use Rattle.trace_causes.specs.Table.{word_in}
 

@@ -1,6 +1,6 @@
 -- This project's own: which answers, places and steps a text can stand for. Numbers are held to the types of the
 -- fields.
-use Rattle.std.specs.Prelude.{ℕ, ◌^◌, ◌<◌}
+use Rattle.std.specs.Prelude.{ℕ, ◌<◌}
 use Rattle.std.specs.List.{AllByRecursion}
 use Rattle.tap_trace.specs.declared.answer.Answer.{Answer}
 use Rattle.tap_trace.specs.declared.answer.Answer.TheVariants as answer

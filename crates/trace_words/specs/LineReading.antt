@@ -1,5 +1,5 @@
 -- This project's own: what the fields of a line say.
-use Rattle.std.specs.Prelude.{ℕ, List, codes, if◌then◌else◌, Option, Some, None, Result, Ok, Err}
+use Rattle.std.specs.Prelude.{ℕ, List, codes, if◌then◌else◌, Option, Some, None}
 use Rattle.std.specs.Str.{bytes_eq}
 use Rattle.tap_trace.specs.declared.trace.OpLine.{OpLine}
 use Rattle.tap_trace.specs.declared.turn.ChainText.TheVariants as chain
@@ -8,11 +8,12 @@ use Rattle.trace_words.specs.declared.said.Said.TheVariants as said
 use Rattle.trace_words.specs.declared.words.HeadWord.{HeadWord}
 use Rattle.trace_words.specs.declared.words.HeadWord.TheVariants as head
 use Rattle.trace_words.specs.AnswerReading.{answer_in}
-use Rattle.trace_words.specs.CauseReading.{place_in}
-use Rattle.trace_words.specs.CauseWords.{bad_of, side_of}
-use Rattle.trace_words.specs.Reading.{◌>>=◌, digits4, digits8, ended, first_by, name_first, number16, number32, number64, number_or_dash_of, number_to}
+use Rattle.trace_causes.specs.OpReading.{op_text_in}
+use Rattle.trace_causes.specs.Reading.{◌>>=◌, digits8, ended, first_by, name_first, number16, number32, number64}
+use Rattle.trace_causes.specs.Words.{bad_of}
+use Rattle.trace_words.specs.Places.{place_in}
 use Rattle.trace_words.specs.StepReading.{step_in}
-use Rattle.trace_words.specs.Words.{head_word, op_word, table_word}
+use Rattle.trace_words.specs.Words.{head_word}
 
 -- `op VERSION COMMAND TEXT`
 unfoldable pub op_in : List (List ℕ) → Option OpLine
