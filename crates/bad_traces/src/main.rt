@@ -1,9 +1,9 @@
 //! Tries texts that are no trace's, one after another.
 //!
-//! `bad_traces.txt` has a text in each row, behind the number of its first bad line; `|` stands for LF, `<` for a tab and
-//! `>` for CR. `good_traces.txt` has texts of traces, one of them with a line of each kind, which are read and printed
-//! again. For each that is read otherwise the program prints what was found, and at the end how many were tried. Two
-//! rows of the first table are wrong on purpose, so that the output shows that a failure is told.
+//! `bad_traces.txt` has a text in each row, behind the number of its first bad line; `|` stands for LF, `<` for a tab
+//! and `>` for CR. `good_traces.txt` has texts of traces, one of them with a line of each kind, which are read and
+//! printed again. For each that is read otherwise the program prints what was found, and at the end how many were
+//! tried. Two rows of the first table are wrong on purpose, so that the output shows that a failure is told.
 #![tactic(auto)]
 
 use anyhow::{Context, Result};

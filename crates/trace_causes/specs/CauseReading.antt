@@ -1,4 +1,5 @@
--- This project's own: what the fields say that tell why commands are refused, what became of frames, and how turns ended.
+-- This project's own: what the fields say that tell why commands are refused, what became of frames, and how turns
+-- ended.
 use Rattle.std.specs.Prelude.{ℕ, List, [], ◌∷◌, Option, Some, None}
 use Rattle.std.specs.Option.{option_map}
 use Rattle.tap_ledger.specs.declared.fate.Cause.{Cause}

@@ -70,7 +70,8 @@ cause_fields file cause.NoQueue = drop_spelling drop_word.NoQueue ∷ []
 cause_fields file cause.Filtered = drop_spelling drop_word.Filtered ∷ []
 cause_fields file (cause.Gone want found shut) =
     drop_spelling drop_word.Gone ∷ (file_fields file ++ decimal want ∷ decimal found ∷ flag_spelling shut ∷ [])
-cause_fields file (cause.Full claimed freed) = drop_spelling drop_word.Full ∷ (file_fields file ++ decimal claimed ∷ decimal freed ∷ [])
+cause_fields file (cause.Full claimed freed) =
+    drop_spelling drop_word.Full ∷ (file_fields file ++ decimal claimed ∷ decimal freed ∷ [])
 cause_fields file cause.Purged = codes "Purged" ∷ []
 cause_fields file (cause.Overrun need quota had) =
     codes "Overrun" ∷ (file_fields file ++ decimal need ∷ decimal quota ∷ decimal had ∷ [])
@@ -81,10 +82,12 @@ cause_fields file (cause.Spent claimed) = drop_spelling drop_word.Spent ∷ (fil
 abbrev pub discard_fields : Cause → List (List ℕ)
 discard_fields cause.NoQueue = drop_spelling drop_word.NoQueue ∷ []
 discard_fields cause.Filtered = drop_spelling drop_word.Filtered ∷ []
-discard_fields (cause.Gone want found shut) = drop_spelling drop_word.Gone ∷ decimal want ∷ decimal found ∷ flag_spelling shut ∷ []
+discard_fields (cause.Gone want found shut) =
+    drop_spelling drop_word.Gone ∷ decimal want ∷ decimal found ∷ flag_spelling shut ∷ []
 discard_fields (cause.Full claimed freed) = drop_spelling drop_word.Full ∷ decimal claimed ∷ decimal freed ∷ []
 discard_fields cause.Purged = fate_spelling fate_word.Purged ∷ []
-discard_fields (cause.Overrun need quota had) = fate_spelling fate_word.Overrun ∷ decimal need ∷ decimal quota ∷ decimal had ∷ []
+discard_fields (cause.Overrun need quota had) =
+    fate_spelling fate_word.Overrun ∷ decimal need ∷ decimal quota ∷ decimal had ∷ []
 discard_fields cause.Cut = fate_spelling fate_word.Cut ∷ []
 discard_fields (cause.Spent claimed) = drop_spelling drop_word.Spent ∷ decimal claimed ∷ []
 

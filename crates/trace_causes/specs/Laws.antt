@@ -30,7 +30,8 @@ pub record IsField {A : Type 0} (read : List ℕ → Option A) (write : A → Li
   pub takes : (field : List ℕ) (a : A) → read field ≡ Some a → Fit a × (write a ≡ field) × IsClean field
 
 -- how the fields up to the end of a line are read, and how what they say is written
-pub record IsPart {A : Type 0} (read : List (List ℕ) → Option A) (write : A → List (List ℕ)) (Fit : A → Type 0) : Type 0 where
+pub record IsPart {A : Type 0} (read : List (List ℕ) → Option A) (write : A → List (List ℕ)) (Fit : A → Type 0)
+    : Type 0 where
   pub again : (a : A) → Fit a → read (write a) ≡ Some a
   pub takes : (fields : List (List ℕ)) (a : A) → read fields ≡ Some a → Fit a × (write a ≡ fields) × AreClean fields
 

@@ -14,4 +14,5 @@ abbrev pub op_fields : OpText → List (List ℕ)
 op_fields (op.SetIff file name flags) = op_spelling word.SetIff ∷ decimal file ∷ name ∷ hex4 flags ∷ []
 op_fields (op.Words command) = command_row [] command
 op_fields (op.Learn file hash) = op_spelling word.Learn ∷ decimal file ∷ hex8 hash ∷ []
-op_fields (op.Back file side vhost) = op_spelling word.Back ∷ decimal file ∷ side_spelling side ∷ number_or_dash vhost ∷ []
+op_fields (op.Back file side vhost) =
+    op_spelling word.Back ∷ decimal file ∷ side_spelling side ∷ number_or_dash vhost ∷ []

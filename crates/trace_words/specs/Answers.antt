@@ -32,12 +32,14 @@ answer_fields (answer.Posted head) = answer_spelling word.Posted ∷ decimal hea
 answer_fields (answer.Harvested chains) = answer_spelling word.Harvested ∷ map harvested chains
 answer_fields answer.NoDriver = answer_spelling word.NoDriver ∷ []
 answer_fields (answer.Fault addr) = answer_spelling word.Fault ∷ decimal addr ∷ []
-answer_fields (answer.Turn packets bytes end chains) = answer_spelling word.Turn ∷ decimal packets ∷ decimal bytes ∷ end_fields end
+answer_fields (answer.Turn packets bytes end chains) =
+    answer_spelling word.Turn ∷ decimal packets ∷ decimal bytes ∷ end_fields end
 answer_fields (answer.Bad bad) = answer_spelling word.Bad ∷ bad_spelling bad ∷ []
 answer_fields (answer.Placed file place epoch len) =
     answer_spelling word.Placed ∷ decimal file ∷ decimal place ∷ decimal epoch ∷ decimal len ∷ []
 answer_fields (answer.Dropped file cause) = answer_spelling word.Dropped ∷ cause_fields file cause
-answer_fields (answer.Read name place bytes) = answer_spelling word.Read ∷ frame_name name ∷ decimal place ∷ encode_lower bytes ∷ []
+answer_fields (answer.Read name place bytes) =
+    answer_spelling word.Read ∷ frame_name name ∷ decimal place ∷ encode_lower bytes ∷ []
 answer_fields (answer.Room least) = answer_spelling word.Refused ∷ err_fields (err.Room least)
 answer_fields answer.Busy = answer_spelling word.Refused ∷ err_fields err.Busy
 answer_fields (answer.Again place) = answer_spelling word.Refused ∷ err_fields (err.Again place)

@@ -16,12 +16,15 @@ of_ring word vhost ring more = word ∷ decimal vhost ∷ decimal ring ∷ more
 
 -- what a step did, of vhost v and ring r
 abbrev pub kind_fields : Kind → List (List ℕ)
-kind_fields (kind.Fetch v r position head) = of_ring (kind_spelling word.Fetch) v r (decimal position ∷ decimal head ∷ [])
+kind_fields (kind.Fetch v r position head) =
+    of_ring (kind_spelling word.Fetch) v r (decimal position ∷ decimal head ∷ [])
 kind_fields (kind.None v r) = of_ring (kind_spelling (word.Plain plain.None)) v r []
 kind_fields (kind.Crowded v r) = of_ring (kind_spelling (word.Plain plain.Crowded)) v r []
 kind_fields (kind.Halt v r fault) = of_ring (kind_spelling word.Halt) v r (decimal fault ∷ [])
-kind_fields (kind.Copy v r position name) = of_ring (kind_spelling word.Copy) v r (decimal position ∷ name_or_dash name ∷ [])
-kind_fields (kind.Publish v r count call) = of_ring (kind_spelling word.Publish) v r (decimal count ∷ flag_spelling call ∷ [])
+kind_fields (kind.Copy v r position name) =
+    of_ring (kind_spelling word.Copy) v r (decimal position ∷ name_or_dash name ∷ [])
+kind_fields (kind.Publish v r count call) =
+    of_ring (kind_spelling word.Publish) v r (decimal count ∷ flag_spelling call ∷ [])
 kind_fields (kind.Notices v r on) = of_ring (kind_spelling word.Notices) v r (flag_spelling on ∷ [])
 kind_fields (kind.Off v r) = of_ring (kind_spelling (word.Plain plain.Off)) v r []
 kind_fields (kind.Stopped v r) = of_ring (kind_spelling (word.Plain plain.Stopped)) v r []

@@ -4,8 +4,8 @@
 //! published chain, or the end. To a contract it is a record of numbers and lists.
 //!
 //! `specs/Said.antt` has the fields of each line and which of them fit their types; `specs/Operations.antt`,
-//! `specs/Answers.antt`, `specs/Places.antt` and `specs/Steps.antt` the fields of the longer ones, and `specs/Fits.antt`
-//! the ranges of their numbers. `specs/Laws.antt` has that a line says one thing.
+//! `specs/Answers.antt`, `specs/Places.antt` and `specs/Steps.antt` the fields of the longer ones, and
+//! `specs/Fits.antt` the ranges of their numbers. `specs/Laws.antt` has that a line says one thing.
 //!
 //! [`said_of`] reads a line: its words are in `specs/Words.antt`, and what its fields say together in
 //! `specs/StepReading.antt`, `specs/AnswerReading.antt` and `specs/LineReading.antt`. The fields one by one, and what
