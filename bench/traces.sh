@@ -3,8 +3,9 @@
 # file (frames of 60 bytes, a read for every send, up to 500 frames waiting in a ring of 1,024), and beside each
 # `tapsim check` on the same scenario, so that what is left is the run, its trace and its report. It prints the
 # processor time, the megabytes of output a second and the peak memory; then 200,000 against 20,000 (at most 12 times),
-# and what is left against sha256sum of the output. It times the program itself, which bin/tapsim builds first where
-# that is needed. It needs GNU time as /usr/bin/time.
+# and what is left against sha256sum of the output. Then trace_bench reads the output of the larger run: its processor
+# time against sha256sum (at most 2 times), and its peak memory against the bytes that it reads (at most 2.5 times). It
+# times the programs themselves, which are built first where that is needed. It needs GNU time as /usr/bin/time.
 set -eu
 top=$(CDPATH= cd -- "$(dirname -- "$0")/.." && pwd)
 program=$top/crates/tapsim/out/tapsim
@@ -63,3 +64,15 @@ awk 'FNR == 1 { t[++n] = $1 > 0 ? $1 : 0.001 }
         t[2] / t[1], t[4] / t[3], (t[2] - t[5]) / t[6] }' \
     "$scratch/small.plain" "$scratch/many.plain" "$scratch/small.--json" "$scratch/many.--json" \
     "$scratch/many.check" "$scratch/sum"
+
+reader=$top/crates/trace_bench/out/trace_bench
+(cd "$top/crates/trace_bench" && rt run <stdin >"$scratch/built" 2>&1) || { tail -n 20 "$scratch/built"; exit 1; }
+for run in 1 2 3; do
+    /usr/bin/time -o "$scratch/run" -f '%U %S %M' "$reader" <"$scratch/many.out" >"$scratch/read"
+    awk '{ print $1 + $2, $3 }' "$scratch/run"
+done | sort -n | head -1 | awk -v size="$(wc -c <"$scratch/many.out")" -v sum="$(cat "$scratch/sum")" -v told="$(cat "$scratch/read")" '{
+    seconds = $1 > 0 ? $1 : 0.001
+    if (sum <= 0) sum = 0.001
+    printf "read (%s): %.3f s, %.1f MB/s, peak %.1f MiB; %.1f times sha256sum (at most 2), %.2f times the text (at most 2.5)\n",
+        told, $1, size / 1e6 / seconds, $2 / 1024, seconds / sum, $2 * 1024 / size
+}'

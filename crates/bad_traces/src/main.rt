@@ -1,8 +1,9 @@
 //! Tries texts that are no trace's, one after another.
 //!
-//! `bad_traces.txt` has a text in each row, behind the number of its first bad line, in which `|` stands for LF. Behind
-//! those come texts of traces, which are read and printed again. For each that is read otherwise the program prints
-//! what was found, and at the end how many were tried.
+//! `bad_traces.txt` has a text in each row, behind the number of its first bad line; `|` stands for LF, `<` for a tab
+//! and `>` for CR. `good_traces.txt` has texts of traces, one of them with a line of each kind, which are read and
+//! printed again. For each that is read otherwise the program prints what was found, and at the end how many were
+//! tried. Two rows of the first table are wrong on purpose, so that the output shows that a failure is told.
 #![tactic(auto)]
 
 use anyhow::{Context, Result};
@@ -10,20 +11,6 @@ use scen_words::OrMemory;
 use std::alloc::{AllocError, Global};
 use std::fs;
 use trace_text::{MAX_BYTES, print_trace, read_trace};
-
-/// Texts of traces.
-const GOOD: [&str; 4] = [
-    "taptrace 1|end|",
-    "taptrace 1|ring 0 0|base 0|ring 0 1|base 0|used 3 5 26|end|",
-    "taptrace 1|phase 0 0|phase 1 65535|file 3 0 0|guest 9|end|",
-    "taptrace 1|phase 0 2|op 1 0 setiff 0 tap0 5102|op 2 1 hdrsize 0 12|op 3 2 learn 0 3a34b7c4|op 4 3 back 0 tx -|\
-ans 0 0 1 ok 1|ans 0 1 2 ok|ans 0 2 3 ok 3|resize 5 5 1|ans 0 4 4 turn 2 32 idle|got 0.4.0 14 9f5e290a|\
-refused 3 3|ans 1 3 4 placed 0 0 1 14|phase 1 1|ans 0 5 4 read 0.4.0 0 |ans 0 6 4 bytes 00ff|\
-ans 0 7 4 harvest 0:26 1:0|ans 0 8 4 err EINVAL 10|ans 0 9 4 drop Gone 0 1 2 1|ans 0 10 4 verr EHDR 12 10|\
-ans 0 11 4 derr Full 3 2|file 0 2 1|line 0 1 0.3.0 14 read|line 1 1 0.4.0 14 overrun 26 1 20|file 3 0 0|guest 0|\
-step 0 1 fetch 0 1 0 5|step 0 1 copy 0 1 0 -|step 0 1 publish 0 1 1 1|step 0 2 features 0|step 0 2 poke|guest 1|\
-ring 0 0|base 0|used 0 5 26|base 7|used 7 1 0|ring 0 1|base 0|end|",
-];
 
 /// What a text was read as.
 #[derive(Debug, PartialEq, Drop)]
@@ -47,7 +34,12 @@ struct Tally {
 fn text_of(alloc: Global, row: &str) -> Result<Vec<u8>, AllocError> {
     let mut text = Vec::new(alloc);
     for byte in row.bytes() {
-        text.push(if byte == b'|' { b'\n' } else { byte })?;
+        text.push(match byte {
+            b'|' => b'\n',
+            b'<' => b'\t',
+            b'>' => b'\r',
+            _ => byte,
+        })?;
     }
     Ok(text)
 }
@@ -99,7 +91,8 @@ fn main(rt: HostRuntime) -> Result<()> {
     for row in table.lines() {
         judge_row(&rt, &mut tally, row)?;
     }
-    for row in GOOD {
+    let good = fs::read_to_string(&rt, "good_traces.txt")?;
+    for row in good.lines() {
         judge(&rt, &mut tally, row, Found::Trace { again: true })?;
     }
     println!(rt; "{} tried, {} failed", tally.tried, tally.failed)?;

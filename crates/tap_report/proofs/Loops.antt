@@ -2,12 +2,12 @@
 use Rattle.std.proofs.Common.{◌≡◌, ℕ, suc, ◌+◌, ◌-◌, ◌<◌, ◌≤◌, min, Bool, true, false, cond, if◌then◌else◌, Some, None, Result, Ok, Err, is_ok, List, [], ◌∷◌, ◌++◌, length, take, drop, get_or, map, reverse, Option, sym, ap, ◌∙◌, append_assoc, add-zero, add-one, drop-cons, arith}
 use Rattle.std.specs.Prelude.{OnOk}
 use Rattle.std.specs.declared.alloc.AllocError.{AllocError}
-use Rattle.std.specs.List.{find, flat_map, sum_by}
+use Rattle.std.specs.List.{count_by, find, flat_map, sum_by}
 use Rattle.std.specs.Option.{option_or}
 use Rattle.std.proofs.lemmas.List.{take_more, map_push, append-nil, length-take, reverse-append}
 use Rattle.std.proofs.lemmas.List.Concat.{flat_map-append}
 use Rattle.std.proofs.Math.ListN.{drop_of_length-le}
-use Rattle.std.proofs.lemmas.List.Sums.{sum_by_push}
+use Rattle.std.proofs.lemmas.List.Sums.{count_by_more_no, count_by_more_yes, sum_by_push}
 use Rattle.scen_words.specs.Field.{line, text}
 use Rattle.tap_report.specs.declared.frames.Counted.{Counted}
 use Rattle.tap_report.specs.declared.summary.DeviceRow.{DeviceRow}
@@ -52,6 +52,16 @@ pub capped_more : {X : Type 0} (f : X → ℕ) (now after : ℕ) (xs : List X) (
 capped_more f now after xs i x d lt is so_far new =
     let sums : sum_by f (take (i + 1) xs) ≡ sum_by f (take i xs) + f x = ap (sum_by f) (front_is xs i x d lt is) ∙ sum_by_push f (take i xs) x in
     new ∙ ap (λ n. min (n + f x) 18446744073709551615) so_far ∙ capped_sum (sum_by f (take i xs)) (f x) ∙ ap capped (sym sums)
+
+one_counted : {X : Type 0} (p : X → Bool) (b : Bool) (now after : ℕ) (xs : List X) (i : ℕ) (d : X) → i < length xs → p (get_or xs i d) ≡ b
+    → now ≡ count_by p (take i xs) → after ≡ now + cond b 1 0 → after ≡ count_by p (take (i + 1) xs)
+one_counted p true now after xs i d lt holds so_far new = new ∙ ap (λ n. n + 1) so_far ∙ sym (count_by_more_yes p xs i d lt holds)
+one_counted p false now after xs i d lt fails so_far new = new ∙ add-zero now ∙ so_far ∙ sym (count_by_more_no p xs i d lt fails)
+
+-- one more that may count
+pub counted_more : {X : Type 0} (p : X → Bool) (now after : ℕ) (xs : List X) (i : ℕ) (x d : X) → i < length xs → x ≡ get_or xs i d
+    → now ≡ count_by p (take i xs) → after ≡ now + cond (p x) 1 0 → after ≡ count_by p (take (i + 1) xs)
+counted_more p now after xs i x d lt is so_far new = one_counted p (p x) now after xs i d lt (ap p (sym is)) so_far new
 
 -- one more that may tell
 pub told_more : {X : Type 0} (f : X → Option ℕ) (now after : Option ℕ) (xs : List X) (i : ℕ) (x d : X) → i < length xs → x ≡ get_or xs i d

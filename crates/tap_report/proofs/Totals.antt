@@ -10,7 +10,7 @@ use Rattle.tap_ledger.specs.declared.fate.Fate.TheVariants.{Waiting, Read, Guest
 use Rattle.tap_ledger.specs.Counters.{Counts, IsCounted, has_cause, how_many, is_guest, is_host, is_read, is_waiting, one_if}
 use Rattle.tap_trace.specs.declared.trace.Trace.{Trace}
 use Rattle.tap_report.specs.declared.summary.Summary.{Summary}
-use Rattle.tap_report.specs.Report.{BytesFit, CountsCapped, IsReport, discarded, is_discarded, report_of, total_in, total_of}
+use Rattle.tap_report.specs.Report.{CountsCapped, IsReport, discarded, is_discarded, report_of, total_in, total_of}
 use Rattle.tap_report.specs.Rows.{capped, fates_of_run}
 
 -- ---- one more frame
@@ -85,22 +85,9 @@ total_is c fates is = λ i. record {
   discarded = discarded_is c fates is i;
 }
 
--- where the sum of the lengths fits, it is counted
-exact : (c : Counters) (fates : List (Fate × ℕ)) → CountsCapped c fates → BytesFit fates → Counts c fates
-exact c fates is fits = record {
-  accepted = is.accepted;
-  waiting = is.waiting;
-  read = is.read;
-  guest = is.guest;
-  host = is.host;
-  by_cause = is.by_cause;
-  bytes = let capped_bytes : c.bytes ≡ capped (sum_by (λ (f : Fate × ℕ). f.1) fates) = is.bytes in omega (arith, capped_bytes, fits);
-}
-
 pub is_report : (s : Scenario) (t : Trace) (r : Summary) → r.devices ≡ (report_of s t).devices → r.files ≡ (report_of s t).files → r.rings ≡ (report_of s t).rings
     → CountsCapped r.total (fates_of_run s t) → IsReport s t r
 is_report s t r devices files rings total = record {
   rows = λ i. record { devices = devices i; files = files i; rings = rings i; total = total_is r.total (fates_of_run s t) total i };
   total = total;
-  exact = exact r.total (fates_of_run s t) total;
 }

@@ -1,7 +1,7 @@
 -- This project's own: which settings are kept for a key, so that the last one up to a version is found quickly.
 use Rattle.std.specs.Prelude.{◌≡◌, ℕ, ◌≤◌, ◌<◌, ◌-◌, Bool, false, nat_le, List, [], length, reverse, slice_get, slice_index_or, find, Option, Some, None, unwrap_or}
 use Rattle.tap_report.specs.declared.history.Setting.{Setting}
-use Rattle.tap_report.specs.Index.{latest}
+use Rattle.tap_report.specs.Index.{latest, sets_ever}
 
 -- the list of a key
 abbrev pub kept : List (List Setting) → ℕ → List Setting
@@ -32,3 +32,11 @@ AreRising list = (i j : ℕ) (d : Setting) → i ≤ j → j < length list
 pub record Follows (all : List Setting) (lists : List (List Setting)) : Type 0 where
   pub found : (key seen : ℕ) → last_up_to seen (kept lists key) ≡ latest all key seen
   pub rising : (key : ℕ) → AreRising (kept lists key)
+
+-- the first setting that is kept for a key
+abbrev pub first_kept : List (Option Setting) → ℕ → Option Setting
+first_kept firsts key = unwrap_or (slice_get firsts key) None
+
+-- for each key the first of all its settings is kept
+pub record KeepsFirst (all : List Setting) (firsts : List (Option Setting)) : Type 0 where
+  pub first : (key : ℕ) → first_kept firsts key ≡ find (sets_ever key) all

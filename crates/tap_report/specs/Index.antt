@@ -17,6 +17,8 @@ use Rattle.tap_trace.specs.declared.trace.PhasePart.{PhasePart}
 use Rattle.tap_trace.specs.declared.trace.Trace.{Trace}
 use Rattle.tap_report.specs.declared.history.Setting.{Setting}
 use Rattle.tap_report.specs.declared.index.Role.{Role}
+use Rattle.tap_report.specs.declared.index.Wanted.{Wanted}
+use Rattle.tap_report.specs.declared.index.Wanted.TheVariants.{Attachments, Backings}
 use Rattle.tap_report.specs.declared.index.Role.TheVariants.{Sends, Writes, Receives, Transmits, Backs, Other}
 
 -- ---- commands
@@ -56,30 +58,22 @@ attached names version (SetIff file name flags) =
     record { version = version; key = file; value = number_among names name } ∷ []
 attached names version op = []
 
-abbrev pub op_attached : List (List ℕ) → OpLine → List Setting
-op_attached names o = attached names o.version o.text
-
--- those of a phase, and all of them, in the order of the trace
-abbrev pub phase_attachments : List (List ℕ) → PhasePart → List Setting
-phase_attachments names p = flat_map (op_attached names) p.ops
-
-abbrev pub attachments : List (List ℕ) → Trace → List Setting
-attachments names t = flat_map (phase_attachments names) t.phases
-
 -- the transmit backend that an operation sets
 abbrev pub backed : ℕ → OpText → List Setting
 backed version (Back file Tx (Some vhost)) = record { version = version; key = vhost; value = Some file } ∷ []
 backed version op = []
 
-abbrev pub op_backed : OpLine → List Setting
-op_backed o = backed o.version o.text
+-- what an operation sets, where it is wanted
+abbrev pub set_by : Wanted → List (List ℕ) → OpLine → List Setting
+set_by Attachments names o = attached names o.version o.text
+set_by Backings names o = backed o.version o.text
 
--- those of a phase, and all of them, in the order of the trace
-abbrev pub phase_backings : PhasePart → List Setting
-phase_backings p = flat_map op_backed p.ops
+-- the settings of a phase, and all of them, in the order of the trace
+abbrev pub phase_settings : Wanted → List (List ℕ) → PhasePart → List Setting
+phase_settings wanted names p = flat_map (set_by wanted names) p.ops
 
-abbrev pub backings : Trace → List Setting
-backings t = flat_map phase_backings t.phases
+abbrev pub settings : Wanted → List (List ℕ) → Trace → List Setting
+settings wanted names t = flat_map (phase_settings wanted names) t.phases
 
 -- ---- the device of a frame
 

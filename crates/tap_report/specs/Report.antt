@@ -1,10 +1,10 @@
 -- This project's own: the report of a run, as a function of the scenario and the trace.
-use Rattle.std.specs.Prelude.{◌≡◌, ℕ, ◌+◌, ◌^◌, ◌<◌, Bool, true, false, List, length, map, sum, sum_by, slice_index}
+use Rattle.std.specs.Prelude.{◌≡◌, ℕ, ◌+◌, ◌<◌, Bool, true, false, List, length, map, sum, sum_by, slice_index}
 use Rattle.scen_text.specs.declared.scenario.Scenario.{Scenario}
 use Rattle.tap_ledger.specs.declared.counters.Counters.{Counters}
 use Rattle.tap_ledger.specs.declared.fate.Fate.{Fate}
 use Rattle.tap_ledger.specs.declared.fate.Fate.TheVariants.{Discarded}
-use Rattle.tap_ledger.specs.Counters.{Counts, has_cause, how_many, is_guest, is_host, is_read, is_waiting}
+use Rattle.tap_ledger.specs.Counters.{has_cause, how_many, is_guest, is_host, is_read, is_waiting}
 use Rattle.tap_trace.specs.declared.trace.Trace.{Trace}
 use Rattle.tap_report.specs.declared.summary.DeviceRow.{DeviceRow}
 use Rattle.tap_report.specs.declared.summary.FileRow.{FileRow}
@@ -85,13 +85,7 @@ pub record CountsCapped (c : Counters) (fates : List (Fate × ℕ)) : Type 0 whe
   pub by_cause : (k : ℕ) → k < 9 → slice_index c.by_cause k ≡ how_many (has_cause k) fates
   pub bytes : c.bytes ≡ capped (sum_by (λ f. f.1) fates)
 
--- the sum of the lengths fits its type
-abbrev pub BytesFit : List (Fate × ℕ) → Type 0
-BytesFit fates = sum_by (λ (f : Fate × ℕ). f.1) fates < 2 ^ 64
-
--- It shows the report of the run. Its counters count all frames by their fates; where the sum of the lengths fits its
--- type, that is counted, too.
+-- it shows the report of the run, and its counters count all frames by their fates
 pub record IsReport (s : Scenario) (t : Trace) (r : Summary) : Type 0 where
   pub rows : shown r ≡ report_of s t
   pub total : CountsCapped r.total (fates_of_run s t)
-  pub exact : BytesFit (fates_of_run s t) → Counts r.total (fates_of_run s t)

@@ -16,12 +16,13 @@ use Rattle.tap_trace.specs.declared.trace.Trace.{Trace}
 use Rattle.tap_report.specs.declared.frames.Counted.{Counted}
 use Rattle.tap_report.specs.declared.index.Index.{Index}
 use Rattle.tap_report.specs.declared.index.Role.{Role}
+use Rattle.tap_report.specs.declared.index.Wanted.TheVariants.{Attachments, Backings}
 use Rattle.tap_report.specs.declared.summary.DeviceRow.{DeviceRow}
 use Rattle.tap_report.specs.declared.summary.FileRow.{FileRow}
 use Rattle.tap_report.specs.declared.summary.RingRow.{RingRow}
 use Rattle.tap_report.specs.declared.turns.Turned.{Turned}
 use Rattle.tap_report.specs.Frames.{frames}
-use Rattle.tap_report.specs.Index.{attachments, backings, roles}
+use Rattle.tap_report.specs.Index.{roles, settings}
 use Rattle.tap_report.specs.Turns.{calls, copies, is_turn_of, stopped}
 
 -- ---- devices
@@ -148,7 +149,11 @@ ring_row rs us gs r = record {
 
 -- what is looked up
 abbrev pub index_of : Scenario → Trace → Index
-index_of s t = record { roles = roles s; attachments = attachments s.names t; backings = backings t }
+index_of s t = record {
+  roles = roles s;
+  attachments = settings Attachments s.names t;
+  backings = settings Backings s.names t;
+}
 
 -- all frames of the run
 abbrev pub frames_of_run : Scenario → Trace → List Counted

@@ -1,8 +1,7 @@
 //! What operations set for files and vhosts, looked up by version.
 
 ghost use Rattle.std.specs.Prelude.{◌≡◌, ℕ, ◌≤◌, ◌<◌, ◌++◌, ◌∷◌, [], List, Some, IfOk, OnOk, length, find, if◌then◌else◌, nat_le};
-ghost use Rattle.tap_report.specs.History.{AreRising, Follows, is_hidden, kept, last_up_to};
-ghost use Rattle.tap_report.specs.Index.{sets_ever};
+ghost use Rattle.tap_report.specs.History.{AreRising, Follows, KeepsFirst, first_kept, is_hidden, kept, last_up_to};
 ghost use Rattle.tap_report.specs.declared.history.Setting.{Setting};
 
 use sqlite_items::{Items, at};
@@ -25,18 +24,20 @@ pub struct History {
     all: Items<Setting>,
     /// For each key the settings that no later one hides: one that came later with the same or a smaller version.
     lists: Vec<Items<Setting>>,
+    /// For each key the first setting.
+    firsts: Vec<Option<Setting>>,
 }
 
 impl Model for History {
     ghost use Rattle.std.specs.Prelude.{List};
-    ghost use Rattle.tap_report.specs.History.{Follows};
+    ghost use Rattle.tap_report.specs.History.{Follows, KeepsFirst};
     ghost use Rattle.tap_report.specs.declared.history.Setting.{Setting};
 
     ghost Value = { List Setting };
 
     ghost view = { λ h. h.all };
 
-    ghost invariant = { λ h. Follows h.all h.lists.items };
+    ghost invariant = { λ h. Follows h.all h.lists.items × KeepsFirst h.all h.firsts.items };
 }
 
 impl History {
@@ -48,7 +49,8 @@ impl History {
         ensures { IfOk result (λ h. h ≡ all) }
     {
         let lists = lists_of(alloc, all.as_slice())?;
-        Ok(History { all, lists })
+        let firsts = firsts_of(alloc, all.as_slice())?;
+        Ok(History { all, lists, firsts })
     }
 
     /// The last setting for a key by a version up to this one.
@@ -65,25 +67,11 @@ impl History {
     pub fn first(&self, key: usize) -> Option<Setting>
         ensures { result ≡ find (sets_ever key) self.now }
     {
-        first_for(self.all.as_slice(), key)
-    }
-}
-
-fn sets_ever(key: usize, setting: Setting) -> bool
-    ensures { result ≡ sets_ever key setting }
-{
-    usize::from(setting.key) == key
-}
-
-fn first_for(all: &[Setting], key: usize) -> Option<Setting>
-    ensures { result ≡ find (sets_ever key) all.now }
-{
-    for setting in all {
-        if sets_ever(key, *setting) {
-            return Some(*setting);
+        match self.firsts.get(key) {
+            Some(first) => *first,
+            None => None,
         }
     }
-    None
 }
 
 // The last setting of a list by a version up to this one.
@@ -149,4 +137,37 @@ fn lists_of(alloc: Global, all: &[Setting]) -> Result<Vec<Items<Setting>>, Alloc
         note(alloc, &mut lists, *setting)?;
     }
     Ok(lists)
+}
+
+// Makes a place for the first setting of each key up to this one.
+fn grow_firsts(firsts: &mut Vec<Option<Setting>>, key: usize) -> Result<(), AllocError>
+    ensures long { OnOk result (key < length firsts.new.items) }
+    ensures same { OnOk result ((k : ℕ) → first_kept firsts.new.items k ≡ first_kept firsts.old.items k) }
+{
+    while firsts.len() <= key {
+        firsts.push(None)?;
+    }
+    Ok(())
+}
+
+// Keeps a setting where it is the first of its key.
+fn note_first(firsts: &mut Vec<Option<Setting>>, setting: Setting) -> Result<(), AllocError>
+    ensures { (all : List Setting) → KeepsFirst all firsts.old.items
+        → OnOk result (KeepsFirst (all ++ setting ∷ []) firsts.new.items) }
+{
+    let key = usize::from(setting.key);
+    grow_firsts(firsts, key)?;
+    let first = firsts[key];
+    firsts[key] = first.or(Some(setting));
+    Ok(())
+}
+
+fn firsts_of(alloc: Global, all: &[Setting]) -> Result<Vec<Option<Setting>>, AllocError>
+    ensures { IfOk result (λ firsts. KeepsFirst all.now firsts.items) }
+{
+    let mut firsts = Vec::new(alloc);
+    for setting in all {
+        note_first(&mut firsts, *setting)?;
+    }
+    Ok(firsts)
 }

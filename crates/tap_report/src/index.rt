@@ -1,8 +1,8 @@
 //! What the report looks up: the commands by number, the attachments and the backends.
 
-ghost use Rattle.std.specs.Prelude.{◌≡◌, ◌++◌, OnOk, IfOk, map};
+ghost use Rattle.std.specs.Prelude.{◌≡◌, ◌++◌, OnOk, IfOk, map, option_to_list};
 ghost use Rattle.std.specs.List.{flat_map};
-ghost use Rattle.tap_report.specs.Index.{attached, backed, backing_at, device_at, line_role, number_among, op_attached, op_backed, phase_attachments, phase_backings, phase_roles, role_at, role_of};
+ghost use Rattle.tap_report.specs.Index.{attached, backed, backing_at, device_at, line_role, number_among, phase_roles, phase_settings, role_at, role_of, set_by};
 ghost use Rattle.tap_report.specs.Rows.{index_of};
 
 use crate::history::{History, Setting};
@@ -102,115 +102,106 @@ fn number_among(names: &[DeviceName], name: &DeviceName) -> Option<usize>
     names.iter().position(|n| n.as_bytes() == name.as_bytes())
 }
 
-fn push_attached(
-    out: &mut Items<Setting>,
-    names: &[DeviceName],
-    version: u64,
-    op: &OpText,
-) -> Result<(), AllocError>
-    ensures { OnOk result (out.new ≡ out.old ++ attached names.now version op.now) }
+/// Which operations are looked up.
+#[derive(Clone, Copy)]
+pub enum Wanted {
+    /// Attachments of files to devices.
+    Attachments,
+    /// Backends of transmit rings.
+    Backings,
+}
+
+fn attached(names: &[DeviceName], version: u64, op: &OpText) -> Option<Setting>
+    ensures { option_to_list result ≡ attached names.now version op.now }
 {
     match op {
-        OpText::SetIff { file, name, .. } => out.push(Setting {
+        OpText::SetIff { file, name, .. } => Some(Setting {
             version,
             key: *file,
             value: number_among(names, name),
         }),
-        _ => Ok(()),
+        _ => None,
     }
 }
 
-fn push_op_attached(
-    out: &mut Items<Setting>,
-    names: &[DeviceName],
-    op: &OpLine,
-) -> Result<(), AllocError>
-    ensures { OnOk result (out.new ≡ out.old ++ op_attached names.now op.now) }
-{
-    push_attached(out, names, op.version, &op.text)
-}
-
-fn push_ops_attached(
-    out: &mut Items<Setting>,
-    names: &[DeviceName],
-    ops: &[OpLine],
-) -> Result<(), AllocError>
-    ensures { OnOk result (out.new ≡ out.old ++ flat_map (op_attached names.now) ops.now) }
-{
-    for op in ops {
-        push_op_attached(out, names, op)?;
-    }
-    Ok(())
-}
-
-fn push_attachments(
-    out: &mut Items<Setting>,
-    names: &[DeviceName],
-    phase: &PhasePart,
-) -> Result<(), AllocError>
-    ensures { OnOk result (out.new ≡ out.old ++ phase_attachments names.now phase.now) }
-{
-    push_ops_attached(out, names, phase.ops.as_slice())
-}
-
-fn attachments(
-    alloc: Global,
-    names: &[DeviceName],
-    phases: &[PhasePart],
-) -> Result<Items<Setting>, AllocError>
-    ensures { IfOk result (λ r. r ≡ flat_map (phase_attachments names.now) phases.now) }
-{
-    let mut out = Items::new(alloc);
-    for phase in phases {
-        push_attachments(&mut out, names, phase)?;
-    }
-    Ok(out)
-}
-
-fn push_backed(out: &mut Items<Setting>, version: u64, op: &OpText) -> Result<(), AllocError>
-    ensures { OnOk result (out.new ≡ out.old ++ backed version op.now) }
+fn backed(version: u64, op: &OpText) -> Option<Setting>
+    ensures { option_to_list result ≡ backed version op.now }
 {
     match op {
         OpText::Back {
             file,
             side: Side::Tx,
             vhost: Some(vhost),
-        } => out.push(Setting {
+        } => Some(Setting {
             version,
             key: *vhost,
             value: Some(usize::from(*file)),
         }),
-        _ => Ok(()),
+        _ => None,
     }
 }
 
-fn push_op_backed(out: &mut Items<Setting>, op: &OpLine) -> Result<(), AllocError>
-    ensures { OnOk result (out.new ≡ out.old ++ op_backed op.now) }
+// What an operation sets, where it is wanted.
+fn set_by(wanted: Wanted, names: &[DeviceName], op: &OpLine) -> Option<Setting>
+    ensures { option_to_list result ≡ set_by wanted names.now op.now }
 {
-    push_backed(out, op.version, &op.text)
+    match wanted {
+        Wanted::Attachments => attached(names, op.version, &op.text),
+        Wanted::Backings => backed(op.version, &op.text),
+    }
 }
 
-fn push_ops_backed(out: &mut Items<Setting>, ops: &[OpLine]) -> Result<(), AllocError>
-    ensures { OnOk result (out.new ≡ out.old ++ flat_map op_backed ops.now) }
+fn push_op(
+    out: &mut Items<Setting>,
+    wanted: Wanted,
+    names: &[DeviceName],
+    op: &OpLine,
+) -> Result<(), AllocError>
+    ensures { OnOk result (out.new ≡ out.old ++ set_by wanted names.now op.now) }
+{
+    match set_by(wanted, names, op) {
+        Some(setting) => out.push(setting),
+        None => Ok(()),
+    }
+}
+
+fn push_ops(
+    out: &mut Items<Setting>,
+    wanted: Wanted,
+    names: &[DeviceName],
+    ops: &[OpLine],
+) -> Result<(), AllocError>
+    ensures { OnOk result (out.new ≡ out.old ++ flat_map (set_by wanted names.now) ops.now) }
 {
     for op in ops {
-        push_op_backed(out, op)?;
+        push_op(out, wanted, names, op)?;
     }
     Ok(())
 }
 
-fn push_backings(out: &mut Items<Setting>, phase: &PhasePart) -> Result<(), AllocError>
-    ensures { OnOk result (out.new ≡ out.old ++ phase_backings phase.now) }
+fn push_settings(
+    out: &mut Items<Setting>,
+    wanted: Wanted,
+    names: &[DeviceName],
+    phase: &PhasePart,
+) -> Result<(), AllocError>
+    ensures { OnOk result (out.new ≡ out.old ++ phase_settings wanted names.now phase.now) }
 {
-    push_ops_backed(out, phase.ops.as_slice())
+    push_ops(out, wanted, names, phase.ops.as_slice())
 }
 
-fn backings(alloc: Global, phases: &[PhasePart]) -> Result<Items<Setting>, AllocError>
-    ensures { IfOk result (λ r. r ≡ flat_map phase_backings phases.now) }
+// All that is wanted, in the order of the trace.
+fn settings(
+    alloc: Global,
+    wanted: Wanted,
+    names: &[DeviceName],
+    phases: &[PhasePart],
+) -> Result<Items<Setting>, AllocError>
+    ensures { IfOk result (λ r. r ≡ flat_map (phase_settings wanted names.now) phases.now) }
 {
     let mut out = Items::new(alloc);
     for phase in phases {
-        push_backings(&mut out, phase)?;
+        push_settings(&mut out, wanted, names, phase)?;
     }
     Ok(out)
 }
@@ -220,13 +211,11 @@ pub fn index_of(alloc: Global, scenario: &Scenario, trace: &Trace) -> Result<Ind
     ensures { IfOk result (λ x. x ≡ index_of scenario.now trace.now) }
 {
     let phases = trace.phases.as_slice();
+    let names = scenario.names.as_slice();
     Ok(Index {
         roles: roles(alloc, scenario.phases.as_slice())?,
-        attachments: History::of(
-            alloc,
-            attachments(alloc, scenario.names.as_slice(), phases)?,
-        )?,
-        backings: History::of(alloc, backings(alloc, phases)?)?,
+        attachments: History::of(alloc, settings(alloc, Wanted::Attachments, names, phases)?)?,
+        backings: History::of(alloc, settings(alloc, Wanted::Backings, names, phases)?)?,
     })
 }
 

@@ -17,6 +17,7 @@ mod printing;
 mod rings;
 mod rows;
 mod summary;
+mod sums;
 mod turns;
 
 pub use examples::worked_examples;

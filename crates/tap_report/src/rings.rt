@@ -1,13 +1,14 @@
 //! What was done on rings.
 
-ghost use Rattle.std.specs.Prelude.{◌≡◌, IfOk, count_by, map, reverse};
+ghost use Rattle.std.specs.Prelude.{◌≡◌, ◌==◌, if◌then◌else◌, IfOk, count_by, map, reverse};
 ghost use Rattle.tap_trace.specs.declared.trace.StepLine.{StepLine};
-ghost use Rattle.tap_report.specs.Rows.{called, copied, of_turns, published, ring_frames, ring_row};
-ghost use Rattle.tap_report.specs.Turns.{calls, copies, first_told, is_backs, step_stops, stopped, stops, told_by_steps};
+ghost use Rattle.tap_report.specs.Rows.{called, copied, of_turns, published, ring_row};
+ghost use Rattle.tap_report.specs.Turns.{calls, copies, first_told, is_backs, step_stops, stops, told_by_steps};
 ghost use Rattle.tap_report.specs.declared.turns.Turned.{Turned};
 
 use crate::index::{Role, role_at};
 use crate::summary::RingRow;
+use crate::sums::{counted, one_if};
 use crate::turns::{Turned, is_turn_of};
 use sqlite_items::Items;
 use std::alloc::{AllocError, Global};
@@ -39,25 +40,6 @@ fn copies(vhost: u16, ring: u16, kind: Kind) -> bool
     }
 }
 
-fn copies_in(vhost: u16, ring: u16, steps: &[StepLine]) -> u64
-    ensures { result ≡ count_by (λ (s : StepLine). copies vhost ring s.kind) steps.now }
-{
-    steps
-        .iter()
-        .filter(|step| copies(vhost, ring, step.kind))
-        .count() as u64
-}
-
-fn copied(vhost: u16, ring: u16, guests: &[GuestPart]) -> u64
-    ensures { result ≡ copied vhost ring guests.now }
-{
-    let mut count = 0u64;
-    for guest in guests {
-        count = count.saturating_add(copies_in(vhost, ring, guest.steps.as_slice()));
-    }
-    count
-}
-
 // Whether chains of this ring were published, and a notice was needed.
 fn calls(vhost: u16, ring: u16, kind: Kind) -> bool
     ensures { result ≡ calls vhost ring kind }
@@ -71,70 +53,6 @@ fn calls(vhost: u16, ring: u16, kind: Kind) -> bool
         } => v == vhost && r == ring && call,
         _ => false,
     }
-}
-
-fn calls_in(vhost: u16, ring: u16, steps: &[StepLine]) -> u64
-    ensures { result ≡ count_by (λ (s : StepLine). calls vhost ring s.kind) steps.now }
-{
-    steps
-        .iter()
-        .filter(|step| calls(vhost, ring, step.kind))
-        .count() as u64
-}
-
-fn called(vhost: u16, ring: u16, guests: &[GuestPart]) -> u64
-    ensures { result ≡ called vhost ring guests.now }
-{
-    let mut count = 0u64;
-    for guest in guests {
-        count = count.saturating_add(calls_in(vhost, ring, guest.steps.as_slice()));
-    }
-    count
-}
-
-// The accepted frames of a ring's turns.
-fn accepted(vhost: u16, ring: u16, turns: &[Turned]) -> u64
-    ensures { result ≡ of_turns (λ (u : Turned). u.got) vhost ring turns.now }
-{
-    let mut count = 0u64;
-    for turn in turns {
-        count = count.saturating_add(if is_turn_of(vhost, ring, turn) {
-            turn.got
-        } else {
-            0
-        });
-    }
-    count
-}
-
-// The refused ones.
-fn refused(vhost: u16, ring: u16, turns: &[Turned]) -> u64
-    ensures { result ≡ of_turns (λ (u : Turned). u.refused) vhost ring turns.now }
-{
-    let mut count = 0u64;
-    for turn in turns {
-        count = count.saturating_add(if is_turn_of(vhost, ring, turn) {
-            turn.refused
-        } else {
-            0
-        });
-    }
-    count
-}
-
-// The bytes of a ring's turns.
-fn bytes(vhost: u16, ring: u16, turns: &[Turned]) -> u64
-    ensures { result ≡ of_turns (λ (u : Turned). u.bytes) vhost ring turns.now }
-{
-    let mut count = 0u64;
-    for turn in turns {
-        count = count.saturating_add(if is_turn_of(vhost, ring, turn) {
-            turn.bytes
-        } else {
-            0
-        });
-    }
-    count
 }
 
 fn is_backs(role: Role) -> bool
@@ -177,45 +95,100 @@ fn stops(role: Role, vhost: u16, ring: u16, kind: Kind) -> Option<u8>
     }
 }
 
-// What the last of some steps tells.
-fn told_in(roles: &[Role], vhost: u16, ring: u16, steps: &[StepLine]) -> Option<u8>
-    ensures { result ≡ first_told (step_stops roles.now vhost ring) (reverse steps.now) }
+// What a ring's turns come to.
+#[derive(Clone, Copy)]
+struct TurnSums {
+    got: u64,
+    refused: u64,
+    bytes: u64,
+}
+
+fn turn_sums(vhost: u16, ring: u16, turns: &[Turned]) -> TurnSums
+    ensures got { result.got ≡ of_turns (λ (u : Turned). u.got) vhost ring turns.now }
+    ensures refused { result.refused ≡ of_turns (λ (u : Turned). u.refused) vhost ring turns.now }
+    ensures bytes { result.bytes ≡ of_turns (λ (u : Turned). u.bytes) vhost ring turns.now }
 {
+    let mut got = 0u64;
+    let mut refused = 0u64;
+    let mut bytes = 0u64;
+    for turn in turns {
+        let own = is_turn_of(vhost, ring, turn);
+        got = got.saturating_add(counted(own, turn.got));
+        refused = refused.saturating_add(counted(own, turn.refused));
+        bytes = bytes.saturating_add(counted(own, turn.bytes));
+    }
+    TurnSums {
+        got,
+        refused,
+        bytes,
+    }
+}
+
+// What a ring's steps come to: the copied packets, the notices that were needed, and what the last step tells of the
+// fault by which the ring is stopped.
+#[derive(Clone, Copy)]
+struct StepSums {
+    copied: u64,
+    called: u64,
+    told: Option<u8>,
+}
+
+fn step_sums(roles: &[Role], vhost: u16, ring: u16, steps: &[StepLine]) -> StepSums
+    ensures copied { result.copied ≡ count_by (λ (s : StepLine). copies vhost ring s.kind) steps.now }
+    ensures called { result.called ≡ count_by (λ (s : StepLine). calls vhost ring s.kind) steps.now }
+    ensures told { result.told ≡ first_told (step_stops roles.now vhost ring) (reverse steps.now) }
+{
+    let mut copied = 0u64;
+    let mut called = 0u64;
     let mut told = None;
     for step in steps {
+        copied += one_if(copies(vhost, ring, step.kind));
+        called += one_if(calls(vhost, ring, step.kind));
         let new = stops(role_at(roles, step.command), vhost, ring, step.kind);
         told = new.or(told);
     }
-    told
+    StepSums {
+        copied,
+        called,
+        told,
+    }
 }
 
-// What the last of a guest's steps tells.
-fn told_by_steps(roles: &[Role], vhost: u16, ring: u16, guest: &GuestPart) -> Option<u8>
-    ensures { result ≡ told_by_steps roles.now vhost ring guest.now }
+fn guest_sums(roles: &[Role], vhost: u16, ring: u16, guest: &GuestPart) -> StepSums
+    ensures copied { result.copied ≡ count_by (λ (s : StepLine). copies vhost ring s.kind) guest.now.steps }
+    ensures called { result.called ≡ count_by (λ (s : StepLine). calls vhost ring s.kind) guest.now.steps }
+    ensures told { result.told ≡ told_by_steps roles.now vhost ring guest.now }
 {
-    told_in(roles, vhost, ring, guest.steps.as_slice())
+    step_sums(roles, vhost, ring, guest.steps.as_slice())
 }
 
-// The number of the fault by which a ring is stopped at the end of the run, or 0.
-fn stopped(roles: &[Role], vhost: u16, ring: u16, guests: &[GuestPart]) -> u8
-    ensures { result ≡ stopped roles.now vhost ring guests.now }
+// Those of all guests.
+fn all_sums(roles: &[Role], vhost: u16, ring: u16, guests: &[GuestPart]) -> StepSums
+    ensures copied { result.copied ≡ copied vhost ring guests.now }
+    ensures called { result.called ≡ called vhost ring guests.now }
+    ensures told { result.told ≡ first_told (told_by_steps roles.now vhost ring) (reverse guests.now) }
 {
+    let mut copied = 0u64;
+    let mut called = 0u64;
     let mut told = None;
     for guest in guests {
-        let new = told_by_steps(roles, vhost, ring, guest);
-        told = new.or(told);
+        let own = guest_sums(roles, vhost, ring, guest);
+        copied = copied.saturating_add(own.copied);
+        called = called.saturating_add(own.called);
+        told = own.told.or(told);
     }
-    told.unwrap_or(0)
+    StepSums {
+        copied,
+        called,
+        told,
+    }
 }
 
-fn ring_frames(vhost: u16, ring: u16, turns: &[Turned], guests: &[GuestPart]) -> u64
-    ensures { result ≡ ring_frames vhost ring turns.now guests.now }
+// The frames of a ring, by what its turns accepted and its steps copied.
+fn ring_frames(ring: u16, got: u64, copied: u64) -> u64
+    ensures { result ≡ (if ring == 1 then got else copied) }
 {
-    if ring == 1 {
-        accepted(vhost, ring, turns)
-    } else {
-        copied(vhost, ring, guests)
-    }
+    if ring == 1 { got } else { copied }
 }
 
 fn ring_row(roles: &[Role], turns: &[Turned], guests: &[GuestPart], part: &RingPart) -> RingRow
@@ -223,15 +196,17 @@ fn ring_row(roles: &[Role], turns: &[Turned], guests: &[GuestPart], part: &RingP
 {
     let vhost = part.vhost;
     let ring = part.ring;
+    let of_turns = turn_sums(vhost, ring, turns);
+    let of_steps = all_sums(roles, vhost, ring, guests);
     RingRow {
         vhost,
         ring,
         chains: published(part.lists.as_slice()),
-        frames: ring_frames(vhost, ring, turns, guests),
-        bytes: bytes(vhost, ring, turns),
-        calls: called(vhost, ring, guests),
-        bad: refused(vhost, ring, turns),
-        stopped: stopped(roles, vhost, ring, guests),
+        frames: ring_frames(ring, of_turns.got, of_steps.copied),
+        bytes: of_turns.bytes,
+        calls: of_steps.called,
+        bad: of_turns.refused,
+        stopped: of_steps.told.unwrap_or(0),
     }
 }
 

@@ -10,6 +10,7 @@ use crate::frames::{Counted, frames};
 use crate::index::index_of;
 use crate::rings::ring_rows;
 use crate::summary::{DeviceRow, FileRow, Summary};
+use crate::sums::one_if;
 use crate::turns::turns;
 use scen_text::Scenario;
 use sqlite_items::Items;
@@ -69,41 +70,40 @@ fn is_dropped(fate: Fate) -> bool
     }
 }
 
-fn received(frames: &[Counted], device: usize) -> u64
-    ensures { result ≡ of_device device is_received frames.now }
-{
-    frames
-        .iter()
-        .filter(|f| is_of(device, f.device) && is_received(f.fate))
-        .count() as u64
+// What the frames of a device come to.
+#[derive(Clone, Copy)]
+struct DeviceSums {
+    rx: u64,
+    tx: u64,
+    dropped: u64,
 }
 
-fn transmitted(frames: &[Counted], device: usize) -> u64
-    ensures { result ≡ of_device device is_transmitted frames.now }
+fn device_sums(frames: &[Counted], device: usize) -> DeviceSums
+    ensures rx { result.rx ≡ of_device device is_received frames.now }
+    ensures tx { result.tx ≡ of_device device is_transmitted frames.now }
+    ensures dropped { result.dropped ≡ of_device device is_dropped frames.now }
 {
-    frames
-        .iter()
-        .filter(|f| is_of(device, f.device) && is_transmitted(f.fate))
-        .count() as u64
-}
-
-fn dropped(frames: &[Counted], device: usize) -> u64
-    ensures { result ≡ of_device device is_dropped frames.now }
-{
-    frames
-        .iter()
-        .filter(|f| is_of(device, f.device) && is_dropped(f.fate))
-        .count() as u64
+    let mut rx = 0u64;
+    let mut tx = 0u64;
+    let mut dropped = 0u64;
+    for frame in frames {
+        let own = is_of(device, frame.device);
+        rx += one_if(own & is_received(frame.fate));
+        tx += one_if(own & is_transmitted(frame.fate));
+        dropped += one_if(own & is_dropped(frame.fate));
+    }
+    DeviceSums { rx, tx, dropped }
 }
 
 fn device_row(frames: &[Counted], device: usize, name: &DeviceName) -> DeviceRow
     ensures { result ≡ device_row frames.now device name.now }
 {
+    let sums = device_sums(frames, device);
     DeviceRow {
         name: name.duplicate(),
-        rx: received(frames, device),
-        tx: transmitted(frames, device),
-        dropped: dropped(frames, device),
+        rx: sums.rx,
+        tx: sums.tx,
+        dropped: sums.dropped,
     }
 }
 

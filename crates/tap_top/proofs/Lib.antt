@@ -5,3 +5,4 @@ pub mod Laws
 pub mod Line
 pub mod Passing
 pub mod Counted
+pub mod Built

@@ -1,9 +1,9 @@
 //! What is written for a good scenario.
 
-ghost use Rattle.std.specs.Prelude.{◌≡◌, ◌+◌, ◌≤◌, IfOk, string_bytes};
+ghost use Rattle.std.specs.Prelude.{◌≡◌, ◌+◌, ◌≤◌, true, IfOk, string_bytes};
 ghost use Rattle.tap_top.specs.Output.{run_of};
 ghost use Rattle.tap_top.specs.Serving.{Serves};
-ghost use Rattle.tap_top.specs.Top.{command_count, count_line, made_text, not_built_line, plain_status, plain_text};
+ghost use Rattle.tap_top.specs.Top.{command_count, count_line, is_built, made_text, not_built_line, plain_status, plain_text, reads};
 
 use crate::output::{output_of, run_of};
 use scen_gen::generate;
@@ -71,8 +71,10 @@ fn plain(alloc: Global, json: bool, scenario: &Scenario) -> Result<Reply, AllocE
     Ok(Reply { status: 0, text })
 }
 
-/// What is written for a good scenario.
+/// What is written for a good scenario, where a request is built that reads one.
 pub fn serve(alloc: Global, request: Request, scenario: Scenario) -> Result<Reply, AllocError>
+    requires built { is_built request ≡ true }
+    requires read { reads request ≡ true }
     ensures { IfOk result (λ r. Serves request scenario (string_bytes r.text) r.status) }
 {
     match request {
@@ -85,10 +87,9 @@ pub fn serve(alloc: Global, request: Request, scenario: Scenario) -> Result<Repl
             text: print_scenario(alloc, &upgrade(scenario))?,
         }),
         Request::Plain { json, .. } => plain(alloc, json, &scenario),
-        Request::Live { .. } | Request::Audit | Request::Gen { .. } => Ok(Reply {
-            status: 0,
-            text: String::new(alloc),
-        }),
+        Request::Live { .. } => unreachable!(),
+        Request::Audit => unreachable!(),
+        Request::Gen { .. } => unreachable!(),
     }
 }
 

@@ -2,7 +2,7 @@
 
 ghost use Rattle.std.specs.Prelude.{◌≡◌, ℕ, true, List, Some, map, string_bytes, IfOk};
 ghost use Rattle.tap_top.specs.Course.{Course, IsSent};
-ghost use Rattle.tap_top.specs.Top.{Ended, IsReply, reads, served, sink_between, source_between};
+ghost use Rattle.tap_top.specs.Top.{Ended, IsReply, is_built, reads, served, sink_between, source_between};
 
 use crate::ends::{ReadError, read_all, write_all};
 use crate::refusal::refusal_line;
@@ -18,7 +18,8 @@ const USAGE: &str =
 
 // The reply to an input, for what is asked.
 fn reply_to(alloc: Global, request: Request, bytes: &[u8]) -> Result<Reply, AllocError>
-    requires { reads request ≡ true }
+    requires built { is_built request ≡ true }
+    requires read { reads request ≡ true }
     ensures { IfOk result (λ reply. IsReply request bytes.now reply.status (string_bytes reply.text)) }
 {
     match read_scenario(alloc, bytes) {
@@ -46,7 +47,8 @@ fn send<K: Sink>(sink: &mut K, text: &str, status: u8) -> u8
 
 // Reads the input, and writes the reply to it.
 fn replied<S: Source, K: Sink>(alloc: Global, request: Request, source: &mut S, sink: &mut K) -> u8
-    requires { reads request ≡ true }
+    requires built { is_built request ≡ true }
+    requires read { reads request ≡ true }
     ensures { (words : List (List ℕ)) → served words ≡ Some request → Course words
         (source_between (S.left source.old) (S.left source.new) (S.faults source.old) (S.faults source.new))
         (sink_between (K.written sink.old) (K.written sink.new) (K.faults sink.old) (K.faults sink.new))

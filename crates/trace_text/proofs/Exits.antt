@@ -7,10 +7,10 @@ use Rattle.text_fields.specs.Lines.{text_of}
 use Rattle.trace_words.specs.Laws.{LinesHaveNoEnd, LinesSayOneThing}
 use Rattle.trace_words.specs.Said.{Says}
 use Rattle.trace_words.specs.declared.said.Said.{Said}
-use Rattle.trace_text.specs.BadLine.{Begins, ended_lines}
+use Rattle.trace_text.specs.BadLine.{Begins, IsBadLine, ended_lines}
 use Rattle.trace_text.specs.Building.{Takes, step}
 use Rattle.trace_text.specs.Ordered.{StandsFor}
-use Rattle.trace_text.specs.Reading.{CantStand, IsBadLine, IsCut, IsInner, TakesLine, at_stage, ended_trace}
+use Rattle.trace_text.specs.Reading.{CantStand, IsCut, IsInner, TakesLine, at_stage, ended_trace}
 use Rattle.trace_text.specs.TraceText.{trace_lines, trace_text}
 use Rattle.trace_text.specs.declared.builder.Builder.{Builder}
 use Rattle.trace_text.specs.declared.builder.Stage.{Stage}
@@ -38,7 +38,13 @@ module _ (one : LinesSayOneThing) (no_end : LinesHaveNoEnd) where
   says_inner (l ∷ ls) [] all = absurd all
   says_inner (l ∷ ls) (s ∷ ss) all = (no_end l s all.0, says_inner ls ss all.1)
 
-  -- a line that can't stand is the first bad one
+  -- where a line can't stand, the bytes stand for no trace
+  pub not_there : (bytes rest line behind : List ℕ) (n : ℕ) (b : Builder) → length bytes < 2 ^ 64 → Read bytes rest n b → IsCut rest line behind → CantStand b line → (t : Trace) → StandsFor bytes t → ⊥
+  not_there bytes rest line behind n b short r cut none t stands =
+      no_more one no_end bytes rest n b r line behind t short cut.0 none stands.0
+      (ap (λ x. text_of r.lines ++ x) (sym cut.1) ∙ sym r.whole ∙ stands.1)
+
+  -- and that line is the first bad one
   pub bad_line : (bytes rest line behind : List ℕ) (n : ℕ) (b : Builder) → length bytes < 2 ^ 64 → Read bytes rest n b → IsCut rest line behind → CantStand b line → IsBadLine bytes (n + 1)
   bad_line bytes rest line behind n b short r cut none =
       let lines : ended_lines bytes ≡ r.lines ++ line ∷ ended_lines behind =
@@ -50,6 +56,7 @@ module _ (one : LinesSayOneThing) (no_end : LinesHaveNoEnd) where
         n,
         refl,
         record {
+          no_trace = not_there bytes rest line behind n b short r cut none;
           there = omega (arith, ap length lines, length-append r.lines (line ∷ ended_lines behind), r.counted);
           good = subst B (sym so_far) (read_begins bytes rest n b r);
           bad = λ there begins. goes_on bytes rest line n b r short cut.0 none (subst B up_to begins);
@@ -65,15 +72,9 @@ module _ (one : LinesSayOneThing) (no_end : LinesHaveNoEnd) where
           ∙ lined_text (trace_lines begins.0) in
           no_more one no_end bytes rest n b r line (text_of begins.2) begins.0 short inner none begins.1 whole
 
-  -- and the bytes stand for no trace
-  pub not_there : (bytes rest line behind : List ℕ) (n : ℕ) (b : Builder) → length bytes < 2 ^ 64 → Read bytes rest n b → IsCut rest line behind → CantStand b line → (t : Trace) → StandsFor bytes t → ⊥
-  not_there bytes rest line behind n b short r cut none t stands =
-      no_more one no_end bytes rest n b r line behind t short cut.0 none stands.0
-      (ap (λ x. text_of r.lines ++ x) (sym cut.1) ∙ sym r.whole ∙ stands.1)
-
   -- behind the last line that has its LF, more is wanted
-  pub bad_end : (bytes rest : List ℕ) (n : ℕ) (b : Builder) → Read bytes rest n b → IsInner rest → IsBadLine bytes (n + 1)
-  bad_end bytes rest n b r inner =
+  pub bad_end : (bytes rest : List ℕ) (n : ℕ) (b : Builder) → Read bytes rest n b → IsInner rest → ((t : Trace) → StandsFor bytes t → ⊥) → IsBadLine bytes (n + 1)
+  bad_end bytes rest n b r inner none =
       let lines : ended_lines bytes ≡ r.lines =
       ap ended_lines r.whole ∙ ended_text r.lines rest (says_inner r.lines r.said r.says) ∙ ap (λ ks. r.lines ++ ks) (ended_inner rest inner) ∙ append-nil r.lines in
       let so_far : take n (ended_lines bytes) ≡ r.lines =
@@ -82,6 +83,7 @@ module _ (one : LinesSayOneThing) (no_end : LinesHaveNoEnd) where
         n,
         refl,
         record {
+          no_trace = none;
           there = omega (arith, ap length lines, r.counted);
           good = subst B (sym so_far) (read_begins bytes rest n b r);
           bad = λ there begins. omega (arith, ap length lines, r.counted);

@@ -10,7 +10,8 @@ use Rattle.tap_trace.specs.declared.trace.PhasePart.{PhasePart}
 use Rattle.tap_trace.specs.declared.trace.PositionList.{PositionList}
 use Rattle.tap_trace.specs.declared.trace.RingPart.{RingPart}
 use Rattle.tap_trace.specs.declared.trace.Trace.{Trace}
-use Rattle.trace_words.specs.Fits.{FitAnswerLine, FitChain, FitOpLine, FitPlace, FitStep, FitUsed, Is16}
+use Rattle.trace_causes.specs.Fits.{Is16}
+use Rattle.trace_words.specs.Fits.{FitAnswerLine, FitChain, FitOpLine, FitPlace, FitStep, FitUsed}
 use Rattle.trace_words.specs.Said.{FitSaid}
 use Rattle.trace_words.specs.declared.said.Said.{Said}
 use Rattle.trace_words.specs.declared.said.Said.TheVariants as said

@@ -18,7 +18,8 @@ use Rattle.tap_trace.specs.declared.trace.RingPart.{RingPart}
 use Rattle.tap_trace.specs.declared.trace.StepLine.{StepLine}
 use Rattle.tap_trace.specs.declared.trace.Trace.{Trace}
 use Rattle.tap_trace.specs.declared.turn.ChainText.{ChainText}
-use Rattle.trace_words.specs.Fits.{FitAnswerLine, FitAnswer, FitChain, FitOpLine, FitPlace, FitStep, Is16, Is64, IsRing}
+use Rattle.trace_causes.specs.Fits.{Is16, Is64, IsRing}
+use Rattle.trace_words.specs.Fits.{FitAnswerLine, FitAnswer, FitChain, FitOpLine, FitPlace, FitStep}
 use Rattle.trace_words.specs.Said.{IsBare}
 use Rattle.trace_words.specs.declared.said.Said.{Said}
 use Rattle.trace_words.specs.declared.said.Said.TheVariants as said

@@ -13,3 +13,4 @@ pub mod Adds
 pub mod Lines
 pub mod Exits
 pub mod Pieces
+pub mod OneBad

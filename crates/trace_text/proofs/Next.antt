@@ -8,7 +8,7 @@ use Rattle.tap_trace.specs.declared.trace.PhasePart.{PhasePart}
 use Rattle.tap_trace.specs.declared.trace.Trace.{Trace}
 use Rattle.tap_trace.specs.declared.turn.ChainText.TheVariants.{Got, Refused}
 use Rattle.text_fields.specs.Lines.{line_of}
-use Rattle.trace_words.specs.Fits.{Is16}
+use Rattle.trace_causes.specs.Fits.{Is16}
 use Rattle.trace_words.specs.Laws.{LinesHaveNoEnd, LinesSayOneThing}
 use Rattle.trace_words.specs.Said.{FitSaid, said_fields}
 use Rattle.trace_words.specs.declared.said.Said.{Said}

@@ -6,7 +6,8 @@ use Rattle.std.proofs.lemmas.List.{map-append}
 use Rattle.tap_trace.specs.declared.trace.PositionList.{PositionList}
 use Rattle.tap_trace.specs.declared.trace.RingPart.{RingPart}
 use Rattle.tap_trace.specs.declared.trace.Trace.{Trace}
-use Rattle.trace_words.specs.Fits.{FitUsed, Is16, IsRing}
+use Rattle.trace_causes.specs.Fits.{Is16, IsRing}
+use Rattle.trace_words.specs.Fits.{FitUsed}
 use Rattle.trace_words.specs.Said.{FitSaid}
 use Rattle.trace_words.specs.declared.said.Said.{Said}
 use Rattle.trace_words.specs.declared.said.Said.TheVariants as said

@@ -1,11 +1,11 @@
 -- This project's own: the first bad line of bytes that stand for no trace; and the parts of an input that has a
 -- scenario, its trace, and what follows.
-use Rattle.std.specs.Prelude.{◌≡◌, ℕ, suc, ◌≤◌, Bool, not, ◌||◌, ◌==◌, List, [], ◌∷◌, ◌++◌, length, map, take, drop, take_while, codes}
+use Rattle.std.specs.Prelude.{◌≡◌, ℕ, suc, ◌+◌, ◌≤◌, Bool, not, ◌||◌, ◌==◌, List, [], ◌∷◌, ◌++◌, length, map, take, drop, take_while, codes}
 use Rattle.std.specs.List.{flat_map, slice_split}
 use Rattle.std.specs.Str.{bytes_eq}
 use Rattle.tap_trace.specs.declared.trace.Trace.{Trace}
 use Rattle.text_fields.specs.Lines.{ended, line_of}
-use Rattle.trace_text.specs.Ordered.{FitTrace}
+use Rattle.trace_text.specs.Ordered.{FitTrace, StandsFor}
 use Rattle.trace_text.specs.TraceText.{trace_lines}
 
 -- ---- lines
@@ -27,12 +27,17 @@ abbrev pub Begins : List (List ℕ) → Type 0
 Begins lines =
     (t : Trace) × FitTrace t × (more : List (List ℕ)) × (map line_of (trace_lines t) ≡ lines ++ more)
 
--- the line behind so many is the first bad one: some text begins with the lines before it, which have their LF; and it
--- lacks its LF, or isn't there, or no text begins with the lines up to it. A whole trace meets it behind its last line.
+-- the line behind so many is the first bad one: the bytes stand for no trace; some text begins with the lines before
+-- it, which have their LF; and it lacks its LF, or isn't there, or no text begins with the lines up to it
 pub record IsFirstBad (bytes : List ℕ) (before : ℕ) : Type 0 where
+  pub no_trace : (t : Trace) → StandsFor bytes t → ⊥
   pub there : before ≤ length (ended_lines bytes)
   pub good : Begins (take before (ended_lines bytes))
   pub bad : suc before ≤ length (ended_lines bytes) → Begins (take (suc before) (ended_lines bytes)) → ⊥
+
+-- its number, counted from 1
+abbrev pub IsBadLine : List ℕ → ℕ → Type 0
+IsBadLine bytes line = (before : ℕ) × (line ≡ before + 1) × IsFirstBad bytes before
 
 -- ---- a scenario, its trace, and what follows
 

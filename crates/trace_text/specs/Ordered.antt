@@ -10,7 +10,8 @@ use Rattle.tap_trace.specs.declared.trace.PlaceLine.{PlaceLine}
 use Rattle.tap_trace.specs.declared.trace.PositionList.{PositionList}
 use Rattle.tap_trace.specs.declared.trace.RingPart.{RingPart}
 use Rattle.tap_trace.specs.declared.trace.Trace.{Trace}
-use Rattle.trace_words.specs.Fits.{FitAnswerLine, FitOpLine, FitPlace, FitStep, FitUsed, Is16, Is64, IsRing}
+use Rattle.trace_causes.specs.Fits.{Is16, Is64, IsRing}
+use Rattle.trace_words.specs.Fits.{FitAnswerLine, FitOpLine, FitPlace, FitStep, FitUsed}
 use Rattle.trace_text.specs.TraceText.{trace_text}
 
 -- ---- orders

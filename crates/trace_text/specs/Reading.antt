@@ -1,5 +1,5 @@
--- This project's own: what the reader of a trace does with a line, and what its error says.
-use Rattle.std.specs.Prelude.{◌≡◌, ℕ, ◌+◌, Bool, true, false, not, ◌==◌, List, ◌∷◌, ◌++◌, Option, Some, None}
+-- This project's own: what the reader of a trace does with a line.
+use Rattle.std.specs.Prelude.{◌≡◌, ℕ, Bool, true, false, not, ◌==◌, List, ◌∷◌, ◌++◌, Option, Some, None}
 use Rattle.std.specs.List.{list_all}
 use Rattle.tap_trace.specs.declared.trace.Trace.{Trace}
 use Rattle.trace_words.specs.Said.{Says}
@@ -7,18 +7,7 @@ use Rattle.trace_words.specs.declared.said.Said.{Said}
 use Rattle.trace_text.specs.declared.builder.Builder.{Builder}
 use Rattle.trace_text.specs.declared.builder.Stage.{Stage}
 use Rattle.trace_text.specs.declared.builder.Stage.TheVariants.{Start, Inside, Ended}
-use Rattle.trace_text.specs.BadLine.{IsFirstBad}
 use Rattle.trace_text.specs.Building.{step}
-use Rattle.trace_text.specs.Ordered.{FitTrace}
-use Rattle.trace_text.specs.TraceText.{trace_text}
-
--- the number of the first bad line, counted from 1
-abbrev pub IsBadLine : List ℕ → ℕ → Type 0
-IsBadLine bytes line = (before : ℕ) × (line ≡ before + 1) × IsFirstBad bytes before
-
--- two traces with one text are one
-abbrev pub OneText : Type 0
-OneText = (s t : Trace) → FitTrace s → FitTrace t → trace_text s ≡ trace_text t → s ≡ t
 
 -- ---- a line
 

@@ -1,6 +1,6 @@
 //! What traces and their texts have to do with one another.
 
-ghost use Rattle.trace_text.specs.Reading.{OneText};
+ghost use Rattle.trace_text.specs.Laws.{OneBadLine, OneText};
 
 use trace_words::said_laws;
 
@@ -10,3 +10,8 @@ pub fn one_text()
 {
     said_laws();
 }
+
+/// The first bad line of a text is one.
+pub fn one_bad_line()
+    ensures { OneBadLine }
+{}

@@ -3,8 +3,9 @@
 ghost use Rattle.std.specs.Prelude.{◌≤◌, length, Ok, IfErr, IfOk};
 ghost use Rattle.scen_words.specs.Gives.{Gives, IfFault};
 ghost use Rattle.tap_trace.specs.declared.trace.Trace.{Trace};
+ghost use Rattle.trace_text.specs.BadLine.{IsBadLine};
 ghost use Rattle.trace_text.specs.Ordered.{StandsFor};
-ghost use Rattle.trace_text.specs.Reading.{IsBadLine, TakesLine};
+ghost use Rattle.trace_text.specs.Reading.{TakesLine};
 ghost use Rattle.trace_text.specs.declared.limits.TheConstants.{MAX_BYTES};
 
 use crate::builder::Builder;

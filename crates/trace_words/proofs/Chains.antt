@@ -6,19 +6,9 @@ use Rattle.std.specs.Str.{bytes_eq}
 use Rattle.std.proofs.lemmas.Bool.{and_parts, and_from}
 use Rattle.std.proofs.lemmas.Slice.Eq.{bytes_eq-Decides}
 use Rattle.text_fields.specs.Lines.{is_field_byte}
-use Rattle.trace_words.specs.Reading.{◌>>=◌, ended, first_by}
-
--- bytes that a field may have, at each place
-abbrev pub IsClean : List ℕ → Type 0
-IsClean field = list_all is_field_byte field ≡ true
-
-abbrev pub AreClean : List (List ℕ) → Type 0
-AreClean fields = list_all (list_all is_field_byte) fields ≡ true
-
--- how a field is read and how its values are written
-pub record IsField {A : Type 0} (read : List ℕ → Option A) (write : A → List ℕ) (Fit : A → Type 0) : Type 0 where
-  pub again : (a : A) → Fit a → read (write a) ≡ Some a
-  pub takes : (field : List ℕ) (a : A) → read field ≡ Some a → Fit a × (write a ≡ field) × IsClean field
+use Rattle.trace_causes.specs.Laws.{AreClean, IsClean, IsField}
+use Rattle.trace_causes.specs.Reading.{◌>>=◌, ended, first_by}
+use Rattle.trace_causes.specs.Table.{word_in}
 
 one_field : {A X : Type 0} (read : List ℕ → Option A) (write : A → List ℕ) (Fit : A → Type 0) → IsField read write Fit → (more : A × List (List ℕ) → Option X) (Good : X → List (List ℕ) → Type 0)
     → ((a : A) → Fit a → (behind : List (List ℕ)) (x : X) → more (a, behind) ≡ Some x → Good x (write a ∷ behind) × AreClean behind)
@@ -96,8 +86,9 @@ found_word spelling (v ∷ words) clean field w e =
 
 -- a word of a list of words that are spelled so
 pub words_field : {W : Type 0} (spelling : W → List ℕ) (words : List W) → list_all (λ w. list_all is_field_byte (spelling w)) words ≡ true
-    → ((w : W) → find (λ v. bytes_eq (spelling v) (spelling w)) words ≡ Some w)
-    → IsField (λ field. find (λ w. bytes_eq (spelling w) field) words) spelling (λ w. Unit {0})
+    → ((w : W) → word_in spelling words (spelling w) ≡ Some w)
+    → IsField (word_in spelling words) spelling (λ w. Unit {0})
+unfolding word_in
 words_field spelling words clean again = record {
   again = λ w fit. again w;
   takes = λ field w e. let found = found_word spelling words clean field w e in (tt, found.0, found.1);

@@ -1,14 +1,8 @@
 pub mod AnswerLaws
-pub mod CauseLaws
-pub mod CauseWordLaws
 pub mod ChainSteps
 pub mod Chains
-pub mod Cuts
-pub mod DigitsFit
-pub mod FieldLaws
 pub mod LineLaws
 pub mod Loops
-pub mod OpLaws
 pub mod Spaced
 pub mod StepLaws
 pub mod WordLaws

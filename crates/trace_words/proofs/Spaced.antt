@@ -5,7 +5,8 @@ use Rattle.std.specs.List.{join_with_byte, flat_map}
 use Rattle.std.proofs.lemmas.List.{append-nil}
 use Rattle.tap_trace.specs.declared.answer.Answer.{Answer}
 use Rattle.tap_trace.specs.declared.answer.Answer.TheVariants.{Harvested}
-use Rattle.trace_words.specs.Answers.{answer_fields, harvested}
+use Rattle.trace_causes.specs.Values.{harvested}
+use Rattle.trace_words.specs.Answers.{answer_fields}
 
 joined : (word : List ℕ) (chains : List (ℕ × ℕ)) → join_with_byte 32 (word ∷ map harvested chains) ≡ word ++ flat_map (λ e. 32 ∷ harvested e) chains
 joined word [] = sym (append-nil word)

@@ -3,17 +3,15 @@ use Rattle.std.specs.Prelude.{ℕ, List, [], ◌∷◌, Option, Some}
 use Rattle.tap_trace.specs.declared.answer.Answer.{Answer}
 use Rattle.tap_trace.specs.declared.answer.Answer.TheVariants as answer
 use Rattle.tap_trace.specs.declared.trace.AnswerLine.{AnswerLine}
-use Rattle.tap_trace.specs.declared.turn.TurnText.{TurnText}
-use Rattle.tap_trace.specs.declared.turn.TurnText.TheVariants as ends
 use Rattle.text_fields.specs.Hexadecimal.{bytes_of}
 use Rattle.trace_words.specs.declared.words.AnswerWord.{AnswerWord}
 use Rattle.trace_words.specs.declared.words.AnswerWord.TheVariants as word
-use Rattle.trace_words.specs.declared.words.EndWord.{EndWord}
-use Rattle.trace_words.specs.declared.words.EndWord.TheVariants as end_word
-use Rattle.trace_words.specs.CauseReading.{derr_in, drop_in, err_in, verr_in}
-use Rattle.trace_words.specs.CauseWords.{bad_of}
-use Rattle.trace_words.specs.Reading.{◌>>=◌, bytes_or_none, digits8, ended, first_by, harvested_of, name_first, number16, number32, number64, number8, number_to}
-use Rattle.trace_words.specs.Words.{answer_word, end_word as end_word_of}
+use Rattle.trace_causes.specs.declared.err_text.ErrText.{ErrText}
+use Rattle.trace_causes.specs.declared.err_text.ErrText.TheVariants as err
+use Rattle.trace_causes.specs.CauseReading.{derr_in, drop_in, end_in, err_in, verr_in}
+use Rattle.trace_causes.specs.Words.{bad_of}
+use Rattle.trace_causes.specs.Reading.{◌>>=◌, bytes_or_none, digits8, ended, first_by, harvested_of, name_first, number16, number32, number64, number_to}
+use Rattle.trace_words.specs.Words.{answer_word}
 
 -- `ok` alone, or with a version
 unfoldable pub done_in : List (List ℕ) → Option Answer
@@ -65,33 +63,11 @@ fault_in fields = do
   end ← ended addr.1
   Some (answer.Fault addr.0)
 
-unfoldable pub short_in : List (List ℕ) → Option TurnText
-short_in fields = do
-  need ← number32 fields
-  had ← number64 need.1
-  end ← ended had.1
-  Some (ends.Short need.0 had.0)
-
-unfoldable pub stopped_in : List (List ℕ) → Option TurnText
-stopped_in fields = do
-  fault ← number8 fields
-  end ← ended fault.1
-  Some (ends.Stopped fault.0)
-
--- how a turn ended
-unfoldable pub end_behind : EndWord → List (List ℕ) → Option TurnText
-end_behind end_word.Idle fields = ended fields >>= λ end. Some ends.Idle
-end_behind end_word.Short fields = short_in fields
-end_behind end_word.Again fields = ended fields >>= λ end. Some ends.Again
-end_behind end_word.Stopped fields = stopped_in fields
-end_behind end_word.Off fields = ended fields >>= λ end. Some ends.Off
-
 unfoldable pub turn_in : List (List ℕ) → Option Answer
 turn_in fields = do
   packets ← number32 fields
   bytes ← number64 packets.1
-  w ← first_by end_word_of bytes.1
-  end ← end_behind w.0 w.1
+  end ← end_in bytes.1
   Some (answer.Turn packets.0 bytes.0 end [])
 
 unfoldable pub bad_in : List (List ℕ) → Option Answer
@@ -117,6 +93,13 @@ read_in fields = do
   end ← ended bytes.1
   Some (answer.Read name.0 place.0 bytes.0)
 
+-- the answer that stands behind `err`
+abbrev pub refusal : ErrText → Answer
+refusal (err.Room least) = answer.Room least
+refusal err.Busy = answer.Busy
+refusal (err.Again place) = answer.Again place
+refusal (err.Tap why) = answer.Tap why
+
 -- what the fields behind the word of an answer say
 unfoldable pub answer_behind : AnswerWord → List (List ℕ) → Option Answer
 answer_behind word.Done fields = done_in fields
@@ -130,11 +113,11 @@ answer_behind word.Fault fields = fault_in fields
 answer_behind word.Turn fields = turn_in fields
 answer_behind word.Bad fields = bad_in fields
 answer_behind word.Placed fields = placed_in fields
-answer_behind word.Dropped fields = drop_in fields
+answer_behind word.Dropped fields = drop_in fields >>= λ d. Some (answer.Dropped d.0 d.1)
 answer_behind word.Read fields = read_in fields
-answer_behind word.Refused fields = err_in fields
-answer_behind word.Vhost fields = verr_in fields
-answer_behind word.Drive fields = derr_in fields
+answer_behind word.Refused fields = err_in fields >>= λ t. Some (refusal t)
+answer_behind word.Vhost fields = verr_in fields >>= λ why. Some (answer.Vhost why)
+answer_behind word.Drive fields = derr_in fields >>= λ why. Some (answer.Drive why)
 
 -- `ans ACTOR COMMAND SEEN TEXT`
 unfoldable pub answer_in : List (List ℕ) → Option AnswerLine

@@ -1,14 +1,10 @@
 pub mod AnswerReading
 pub mod Answers
-pub mod CauseReading
-pub mod CauseWords
-pub mod Causes
 pub mod Fits
 pub mod Laws
 pub mod LineReading
 pub mod Operations
 pub mod Places
-pub mod Reading
 pub mod Said
 pub mod StepReading
 pub mod Steps

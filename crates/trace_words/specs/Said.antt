@@ -4,8 +4,9 @@ use Rattle.std.specs.Fmt.{decimal}
 use Rattle.tap_trace.specs.declared.answer.Answer.{Answer}
 use Rattle.tap_trace.specs.declared.answer.Answer.TheVariants as answer
 use Rattle.text_fields.specs.Lines.{line_of}
+use Rattle.trace_causes.specs.Fits.{Is16, Is32, Is64, IsRing}
 use Rattle.trace_words.specs.Answers.{answer_line, chain_line}
-use Rattle.trace_words.specs.Fits.{FitAnswerLine, FitChain, FitOpLine, FitPlace, FitStep, Is16, Is32, Is64, IsRing}
+use Rattle.trace_words.specs.Fits.{FitAnswerLine, FitChain, FitOpLine, FitPlace, FitStep}
 use Rattle.trace_words.specs.Operations.{op_line}
 use Rattle.trace_words.specs.Places.{place_line, used_line}
 use Rattle.trace_words.specs.Steps.{step_line}

@@ -1,19 +1,18 @@
 //! The lines of answers, read.
 
 ghost use Rattle.std.specs.Prelude.{◌≡◌, IfOk};
-ghost use Rattle.trace_words.specs.AnswerReading.{answer_behind, answer_in, bad_in, base_in, chains_of, done_in, end_behind, fault_in, harvested_in, host_in, peeked_in, placed_in, posted_in, read_in, short_in, stopped_in, turn_in};
+ghost use Rattle.trace_words.specs.AnswerReading.{answer_behind, answer_in, bad_in, base_in, chains_of, done_in, fault_in, harvested_in, host_in, peeked_in, placed_in, posted_in, read_in, refusal, turn_in};
 
-use crate::cause_reading::{derr, dropped, err, verr};
-use crate::cause_words::bad_of;
-use crate::fields::{
-    bytes, bytes_or_none, digits8, ended, first, harvested_of, name, number_to, number8, number16,
-    number32, number64,
-};
-use crate::words::{AnswerWord, EndWord, answer_word, end_word};
+use crate::words::AnswerWord;
 use sqlite_items::Items;
 use std::alloc::{AllocError, Global};
-use tap_trace::{Answer, AnswerLine, TurnText};
+use tap_trace::{Answer, AnswerLine};
 use text_fields::Fields;
+use trace_causes::fields::{
+    bytes, bytes_or_none, digits8, ended, first, harvested_of, name, number_to, number16, number32,
+    number64,
+};
+use trace_causes::{ErrText, derr, dropped, end, err, next_word, verr};
 
 // Behind `ok`: nothing, or a version.
 #[tactic(auto, unfolding(crate::specs::AnswerReading::done_in))]
@@ -115,17 +114,6 @@ fn fault(fields: Fields<'_>) -> Option<Answer>
     Some(Answer::Fault { addr })
 }
 
-// NEED HAD.
-#[tactic(auto, unfolding(crate::specs::AnswerReading::short_in))]
-fn short(fields: Fields<'_>) -> Option<TurnText>
-    ensures { result ≡ short_in fields.entry }
-{
-    let (need, fields) = number32(fields)?;
-    let (had, fields) = number64(fields)?;
-    ended(fields)?;
-    Some(TurnText::Short { need, had })
-}
-
 // Nothing.
 #[tactic(auto, unfolding(crate::specs::AnswerReading::answer_behind))]
 fn no_driver(fields: Fields<'_>) -> Option<Answer>
@@ -135,39 +123,6 @@ fn no_driver(fields: Fields<'_>) -> Option<Answer>
     Some(Answer::NoDriver)
 }
 
-// N.
-#[tactic(auto, unfolding(crate::specs::AnswerReading::stopped_in))]
-fn stopped(fields: Fields<'_>) -> Option<TurnText>
-    ensures { result ≡ stopped_in fields.entry }
-{
-    let (fault, fields) = number8(fields)?;
-    ended(fields)?;
-    Some(TurnText::Stopped(fault))
-}
-
-// What stands behind the word for how a turn ended.
-#[tactic(auto, unfolding(crate::specs::AnswerReading::end_behind))]
-fn end_behind(word: EndWord, fields: Fields<'_>) -> Option<TurnText>
-    ensures { result ≡ end_behind word fields.entry }
-{
-    match word {
-        EndWord::Idle => {
-            ended(fields)?;
-            Some(TurnText::Idle)
-        }
-        EndWord::Short => short(fields),
-        EndWord::Again => {
-            ended(fields)?;
-            Some(TurnText::Again)
-        }
-        EndWord::Stopped => stopped(fields),
-        EndWord::Off => {
-            ended(fields)?;
-            Some(TurnText::Off)
-        }
-    }
-}
-
 // PACKETS BYTES END.
 #[tactic(auto, unfolding(crate::specs::AnswerReading::turn_in))]
 fn turn(alloc: Global, fields: Fields<'_>) -> Option<Answer>
@@ -175,8 +130,7 @@ fn turn(alloc: Global, fields: Fields<'_>) -> Option<Answer>
 {
     let (packets, fields) = number32(fields)?;
     let (bytes, fields) = number64(fields)?;
-    let (word, fields) = first(fields)?;
-    let end = end_behind(end_word(word)?, fields)?;
+    let end = end(fields)?;
     Some(Answer::Turn {
         packets,
         bytes,
@@ -190,8 +144,7 @@ fn turn(alloc: Global, fields: Fields<'_>) -> Option<Answer>
 fn bad(fields: Fields<'_>) -> Option<Answer>
     ensures { result ≡ bad_in fields.entry }
 {
-    let (field, fields) = first(fields)?;
-    let bad = bad_of(field)?;
+    let (bad, fields) = next_word(fields)?;
     ended(fields)?;
     Some(Answer::Bad(bad))
 }
@@ -234,6 +187,54 @@ fn read(alloc: Global, fields: Fields<'_>) -> Result<Option<Answer>, AllocError>
     Ok(Some(Answer::Read { name, place, bytes }))
 }
 
+// Why a frame was dropped.
+#[tactic(auto, unfolding(crate::specs::AnswerReading::answer_behind))]
+fn discarded(fields: Fields<'_>) -> Option<Answer>
+    ensures { result ≡ answer_behind AnswerWord.Dropped fields.entry }
+{
+    let (file, cause) = dropped(fields)?;
+    Some(Answer::Dropped { file, cause })
+}
+
+// The answer that stands behind `err`.
+fn refusal(text: ErrText) -> Answer
+    ensures { result ≡ refusal text }
+{
+    match text {
+        ErrText::Room { least } => Answer::Room { least },
+        ErrText::Busy => Answer::Busy,
+        ErrText::Again { place } => Answer::Again { place },
+        ErrText::Tap(why) => Answer::Tap(why),
+    }
+}
+
+// Why an operation or a read is refused.
+#[tactic(auto, unfolding(crate::specs::AnswerReading::answer_behind))]
+fn refused(fields: Fields<'_>) -> Option<Answer>
+    ensures { result ≡ answer_behind AnswerWord.Refused fields.entry }
+{
+    let text = err(fields)?;
+    Some(refusal(text))
+}
+
+// Why a vhost refuses a command.
+#[tactic(auto, unfolding(crate::specs::AnswerReading::answer_behind))]
+fn vhost(fields: Fields<'_>) -> Option<Answer>
+    ensures { result ≡ answer_behind AnswerWord.Vhost fields.entry }
+{
+    let why = verr(fields)?;
+    Some(Answer::Vhost(why))
+}
+
+// Why a driver refuses a command.
+#[tactic(auto, unfolding(crate::specs::AnswerReading::answer_behind))]
+fn drive(fields: Fields<'_>) -> Option<Answer>
+    ensures { result ≡ answer_behind AnswerWord.Drive fields.entry }
+{
+    let why = derr(fields)?;
+    Some(Answer::Drive(why))
+}
+
 // What stands behind the word of an answer.
 #[tactic(auto, unfolding(crate::specs::AnswerReading::answer_behind))]
 fn answer_behind(
@@ -255,11 +256,11 @@ fn answer_behind(
         AnswerWord::Turn => Ok(turn(alloc, fields)),
         AnswerWord::Bad => Ok(bad(fields)),
         AnswerWord::Placed => Ok(placed(fields)),
-        AnswerWord::Dropped => Ok(dropped(fields)),
+        AnswerWord::Dropped => Ok(discarded(fields)),
         AnswerWord::Read => read(alloc, fields),
-        AnswerWord::Refused => Ok(err(fields)),
-        AnswerWord::Vhost => Ok(verr(fields)),
-        AnswerWord::Drive => Ok(derr(fields)),
+        AnswerWord::Refused => Ok(refused(fields)),
+        AnswerWord::Vhost => Ok(vhost(fields)),
+        AnswerWord::Drive => Ok(drive(fields)),
     }
 }
 
@@ -277,10 +278,7 @@ pub fn answer(alloc: Global, fields: Fields<'_>) -> Result<Option<AnswerLine>, A
     let Some((seen, fields)) = number64(fields) else {
         return Ok(None);
     };
-    let Some((word, fields)) = first(fields) else {
-        return Ok(None);
-    };
-    let Some(word) = answer_word(word) else {
+    let Some((word, fields)) = next_word(fields) else {
         return Ok(None);
     };
     match answer_behind(alloc, word, fields)? {

@@ -4,28 +4,23 @@ ghost use Rattle.std.specs.Prelude.{◌≡◌, ◌++◌, ◌∷◌, OnOk, string
 ghost use Rattle.std.specs.List.{flat_map, join_with_byte};
 ghost use Rattle.std.specs.Fmt.{decimal};
 ghost use Rattle.scen_words.specs.Field.{line, text};
-ghost use Rattle.trace_words.specs.Answers.{answer_fields, answer_line, answer_lines, chain_line, end_fields, harvested, lines_behind};
+ghost use Rattle.trace_causes.specs.Causes.{end_fields};
+ghost use Rattle.trace_causes.specs.Values.{harvested};
+ghost use Rattle.trace_words.specs.Answers.{answer_fields, answer_line, answer_lines, chain_line, lines_behind};
 
-use crate::causes::{put_drive, put_tap, put_vhost};
-use crate::dropped::put_dropped;
-use crate::shown::{FrameName, Hash, bad_number};
 use std::alloc::AllocError;
 use std::fmt::Write;
 use tap_trace::{Answer, AnswerLine, ChainText, TurnText};
 use text_fields::LowerHex;
+use trace_causes::{FrameName, Hash, Word, put_drive, put_dropped, put_end, put_tap, put_vhost};
 
 // A turn with its packets and bytes, and how it ended.
 fn put_turn(out: &mut String, packets: u32, bytes: u64, end: TurnText) -> Result<(), AllocError>
     ensures { OnOk result (string_bytes out.new ≡ string_bytes out.old
         ++ join_with_byte 32 (codes "turn" ∷ decimal packets ∷ decimal bytes ∷ end_fields end)) }
 {
-    match end {
-        TurnText::Idle => write!(out, "turn {packets} {bytes} idle"),
-        TurnText::Short { need, had } => write!(out, "turn {packets} {bytes} short {need} {had}"),
-        TurnText::Again => write!(out, "turn {packets} {bytes} again"),
-        TurnText::Stopped(fault) => write!(out, "turn {packets} {bytes} stopped {fault}"),
-        TurnText::Off => write!(out, "turn {packets} {bytes} off"),
-    }
+    write!(out, "turn {packets} {bytes} ")?;
+    put_end(out, end)
 }
 
 // The line of a chain of a transmit turn.
@@ -37,7 +32,8 @@ fn put_chain(out: &mut String, chain: &ChainText) -> Result<(), AllocError>
             writeln!(out, "got {} {len} {}", FrameName(*name), Hash(*fnv))
         }
         ChainText::Refused { position, bad } => {
-            writeln!(out, "refused {position} {}", bad_number(*bad))
+            let bad = bad.spelling();
+            writeln!(out, "refused {position} {bad}")
         }
     }
 }
@@ -86,7 +82,10 @@ fn put_answer_text(out: &mut String, answer: &Answer) -> Result<(), AllocError>
             end,
             ..
         } => put_turn(out, *packets, *bytes, *end),
-        Answer::Bad(bad) => write!(out, "bad {}", bad_number(*bad)),
+        Answer::Bad(bad) => {
+            let bad = bad.spelling();
+            write!(out, "bad {bad}")
+        }
         Answer::Placed {
             file,
             place,

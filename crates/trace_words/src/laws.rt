@@ -9,7 +9,6 @@ pub fn said_laws()
     ensures no_end { LinesHaveNoEnd }
 {
     text_fields::line_laws();
-    text_fields::value_laws();
-    text_fields::form_laws();
-    scen_words::command_laws();
+    trace_causes::field_laws();
+    trace_causes::cause_laws();
 }

@@ -4,28 +4,21 @@
 //! published chain, or the end. To a contract it is a record of numbers and lists.
 //!
 //! `specs/Said.antt` has the fields of each line and which of them fit their types; `specs/Operations.antt`,
-//! `specs/Answers.antt`, `specs/Places.antt` and `specs/Steps.antt` the fields of the longer ones, `specs/Causes.antt`
-//! the causes, and `specs/Fits.antt` the ranges of the numbers. `specs/Laws.antt` has that a line says one thing.
+//! `specs/Answers.antt`, `specs/Places.antt` and `specs/Steps.antt` the fields of the longer ones, and
+//! `specs/Fits.antt` the ranges of their numbers. `specs/Laws.antt` has that a line says one thing.
 //!
-//! [`said_of`] reads a line: its words are in `specs/Words.antt` and `specs/CauseWords.antt`, its fields one by one in
-//! `specs/Reading.antt`, and what they say together in `specs/StepReading.antt`, `specs/CauseReading.antt`,
-//! `specs/AnswerReading.antt` and `specs/LineReading.antt`.
+//! [`said_of`] reads a line: its words are in `specs/Words.antt`, and what its fields say together in
+//! `specs/StepReading.antt`, `specs/AnswerReading.antt` and `specs/LineReading.antt`. The fields one by one, and what
+//! several lines have in common, are those of `trace_causes`.
 #![tactic(auto)]
 
 mod answer_reading;
 mod answers;
-mod cause_reading;
-mod cause_words;
-mod causes;
-mod dropped;
-mod fields;
 mod laws;
 mod line_reading;
-mod op_reading;
 mod operations;
 mod places;
 mod said;
-mod shown;
 mod step_reading;
 mod steps;
 #[cfg(test)]

@@ -7,16 +7,16 @@ ghost use Rattle.trace_words.specs.LineReading.{begins_in, file_in, format_of, g
 ghost use Rattle.trace_words.specs.Said.{Says};
 
 use crate::answer_reading::answer;
-use crate::cause_reading::place;
-use crate::cause_words::bad_of;
-use crate::fields::{digits8, ended, first, name, number16, number32, number64};
-use crate::op_reading::op;
+use crate::operations::op;
+use crate::places::place;
 use crate::said::Said;
 use crate::step_reading::step;
-use crate::words::{HeadWord, head_word};
+use crate::words::HeadWord;
 use std::alloc::{AllocError, Global};
 use tap_trace::ChainText;
 use text_fields::Fields;
+use trace_causes::fields::{digits8, ended, first, name, number16, number32, number64};
+use trace_causes::next_word;
 
 // The version of the format.
 #[tactic(auto, unfolding(crate::specs::LineReading::format_of))]
@@ -94,8 +94,7 @@ fn refused(fields: Fields<'_>) -> Option<Said>
     ensures { result ≡ refused_in fields.entry }
 {
     let (position, fields) = number16(fields)?;
-    let (field, fields) = first(fields)?;
-    let bad = bad_of(field)?;
+    let (bad, fields) = next_word(fields)?;
     ended(fields)?;
     Some(Said::Chain(ChainText::Refused { position, bad }))
 }
@@ -245,13 +244,10 @@ fn said_behind(
 fn said_in(alloc: Global, fields: Fields<'_>) -> Result<Option<Said>, AllocError>
     ensures { IfOk result (λ o. o ≡ said_in fields.entry) }
 {
-    let Some((word, fields)) = first(fields) else {
+    let Some((word, fields)) = next_word(fields) else {
         return Ok(None);
     };
-    match head_word(word) {
-        Some(word) => said_behind(alloc, word, fields),
-        None => Ok(None),
-    }
+    said_behind(alloc, word, fields)
 }
 
 // What a line says, by the fields.
@@ -270,8 +266,7 @@ pub fn said_of(alloc: Global, line: &[u8]) -> Result<Option<Said>, AllocError>
     ensures none { IfOk result (λ o. IfNone o ((s : Said) → Says line.now s → ⊥)) }
 {
     text_fields::line_laws();
-    text_fields::value_laws();
-    text_fields::form_laws();
-    scen_words::command_laws();
+    trace_causes::field_laws();
+    trace_causes::cause_laws();
     line_said(alloc, line)
 }

@@ -1,45 +1,16 @@
 //! The lines of operations.
 
-ghost use Rattle.std.specs.Prelude.{◌≡◌, ◌++◌, OnOk, string_bytes};
+ghost use Rattle.std.specs.Prelude.{◌≡◌, ◌++◌, IfOk, OnOk, string_bytes};
 ghost use Rattle.scen_words.specs.Field.{line};
-ghost use Rattle.trace_words.specs.Operations.{op_fields, op_line, side_word};
+ghost use Rattle.trace_words.specs.LineReading.{op_in};
+ghost use Rattle.trace_words.specs.Operations.{op_line};
 
-use crate::shown::{Hash, NumberOrDash, four_digits};
-use scen_words::put_command;
-use std::alloc::AllocError;
+use std::alloc::{AllocError, Global};
 use std::fmt::Write;
-use tap_trace::{OpLine, OpText, Side};
-
-pub fn side_word(side: Side) -> &'static str
-    ensures { result.now ≡ side_word side }
-{
-    match side {
-        Side::Rx => "rx",
-        Side::Tx => "tx",
-    }
-}
-
-// An operation, up to the end of the line.
-fn put_op_text(out: &mut String, op: &OpText) -> Result<(), AllocError>
-    ensures { OnOk result (string_bytes out.new ≡ string_bytes out.old ++ line (op_fields op.now)) }
-{
-    match op {
-        OpText::SetIff { file, name, flags } => {
-            writeln!(
-                out,
-                "setiff {file} {} {}",
-                name.as_str(),
-                four_digits(*flags)
-            )
-        }
-        OpText::Words(command) => put_command(out, &[], command),
-        OpText::Learn { file, hash } => writeln!(out, "learn {file} {}", Hash(*hash)),
-        OpText::Back { file, side, vhost } => {
-            let word = side_word(*side);
-            writeln!(out, "back {file} {word} {}", NumberOrDash(*vhost))
-        }
-    }
-}
+use tap_trace::OpLine;
+use text_fields::Fields;
+use trace_causes::fields::{number32, number64};
+use trace_causes::{op_text, put_op_text};
 
 /// Adds the line of an operation.
 pub fn put_op(out: &mut String, op: &OpLine) -> Result<(), AllocError>
@@ -47,4 +18,25 @@ pub fn put_op(out: &mut String, op: &OpLine) -> Result<(), AllocError>
 {
     write!(out, "op {} {} ", op.version, op.command)?;
     put_op_text(out, &op.text)
+}
+
+/// What stands behind `op`.
+#[tactic(auto, unfolding(crate::specs::LineReading::op_in))]
+pub fn op(alloc: Global, fields: Fields<'_>) -> Result<Option<OpLine>, AllocError>
+    ensures { IfOk result (λ o. o ≡ op_in fields.entry) }
+{
+    let Some((version, fields)) = number64(fields) else {
+        return Ok(None);
+    };
+    let Some((command, fields)) = number32(fields) else {
+        return Ok(None);
+    };
+    match op_text(alloc, fields)? {
+        Some(text) => Ok(Some(OpLine {
+            version,
+            command,
+            text,
+        })),
+        None => Ok(None),
+    }
 }

@@ -3,10 +3,11 @@
 ghost use Rattle.std.specs.Prelude.{◌≡◌};
 ghost use Rattle.trace_words.specs.StepReading.{backend_in, copy_in, features_in, fetch_in, halt_in, kind_behind, notices_in, plain_in, plain_kind, publish_in, step_in};
 
-use crate::fields::{ended, first, flag, name_or_dash, number8, number16, number32};
-use crate::words::{KindWord, PlainWord, kind_word};
+use crate::words::{KindWord, PlainWord};
 use tap_trace::{Kind, StepLine};
 use text_fields::Fields;
+use trace_causes::fields::{ended, name_or_dash, number8, number16, number32};
+use trace_causes::next_word;
 
 fn plain_kind(word: PlainWord, vhost: u16, ring: u16) -> Kind
     ensures { result ≡ plain_kind word vhost ring }
@@ -93,7 +94,7 @@ fn publish(fields: Fields<'_>) -> Option<Kind>
     let (vhost, fields) = number16(fields)?;
     let (ring, fields) = number16(fields)?;
     let (count, fields) = number16(fields)?;
-    let (call, fields) = flag(fields)?;
+    let (call, fields) = next_word(fields)?;
     ended(fields)?;
     Some(Kind::Publish {
         vhost,
@@ -110,7 +111,7 @@ fn notices(fields: Fields<'_>) -> Option<Kind>
 {
     let (vhost, fields) = number16(fields)?;
     let (ring, fields) = number16(fields)?;
-    let (on, fields) = flag(fields)?;
+    let (on, fields) = next_word(fields)?;
     ended(fields)?;
     Some(Kind::Notices { vhost, ring, on })
 }
@@ -122,7 +123,7 @@ fn backend(fields: Fields<'_>) -> Option<Kind>
 {
     let (vhost, fields) = number16(fields)?;
     let (ring, fields) = number16(fields)?;
-    let (set, fields) = flag(fields)?;
+    let (set, fields) = next_word(fields)?;
     ended(fields)?;
     Some(Kind::Backend { vhost, ring, set })
 }
@@ -169,8 +170,8 @@ pub fn step(fields: Fields<'_>) -> Option<StepLine>
 {
     let (actor, fields) = number16(fields)?;
     let (command, fields) = number32(fields)?;
-    let (word, fields) = first(fields)?;
-    let kind = kind_behind(kind_word(word)?, fields)?;
+    let (word, fields) = next_word(fields)?;
+    let kind = kind_behind(word, fields)?;
     Some(StepLine {
         actor,
         command,

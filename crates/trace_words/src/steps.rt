@@ -4,10 +4,10 @@ ghost use Rattle.std.specs.Prelude.{◌≡◌, ◌++◌, OnOk, string_bytes};
 ghost use Rattle.scen_words.specs.Field.{line};
 ghost use Rattle.trace_words.specs.Steps.{kind_fields, step_line};
 
-use crate::shown::{NameOrDash, flag};
 use std::alloc::AllocError;
 use std::fmt::Write;
 use tap_trace::{Kind, StepLine};
+use trace_causes::{NameOrDash, Word};
 
 // What a step did, up to the end of the line.
 fn put_kind(out: &mut String, kind: Kind) -> Result<(), AllocError>
@@ -34,8 +34,12 @@ fn put_kind(out: &mut String, kind: Kind) -> Result<(), AllocError>
             ring,
             count,
             call,
-        } => writeln!(out, "publish {vhost} {ring} {count} {}", flag(call)),
-        Kind::Notices { vhost, ring, on } => writeln!(out, "notices {vhost} {ring} {}", flag(on)),
+        } => writeln!(out, "publish {vhost} {ring} {count} {}", call.spelling()),
+        Kind::Notices { vhost, ring, on } => writeln!(
+            out,
+            "notices {vhost} {ring} {}",
+            on.spelling()
+        ),
         Kind::Off { vhost, ring } => writeln!(out, "off {vhost} {ring}"),
         Kind::Stopped { vhost, ring } => writeln!(out, "stopped {vhost} {ring}"),
         Kind::Features { vhost } => writeln!(out, "features {vhost}"),
@@ -44,7 +48,7 @@ fn put_kind(out: &mut String, kind: Kind) -> Result<(), AllocError>
         Kind::Addr { vhost, ring } => writeln!(out, "addr {vhost} {ring}"),
         Kind::GetBase { vhost, ring } => writeln!(out, "getbase {vhost} {ring}"),
         Kind::Backend { vhost, ring, set } => {
-            writeln!(out, "backend {vhost} {ring} {}", flag(set))
+            writeln!(out, "backend {vhost} {ring} {}", set.spelling())
         }
         Kind::Poke => out.push_str("poke\n"),
         Kind::Peek => out.push_str("peek\n"),

@@ -5,6 +5,8 @@ use Rattle.tap_top.specs.Top.IsReply.{Made}
 use Rattle.tap_top.specs.Top.IsWanted.{Reply, Usage}
 use Rattle.tap_top.specs.Top.Reads.{Untouched}
 use Rattle.tap_top.proofs.Passing.{reads_none}
+use Rattle.tap_top.proofs.Built.{built_only}
+use Rattle.tap_words.specs.Words.{asks}
 use Rattle.tap_top.proofs.top.course.Goals as goal
 
 pub returns-in-Ok-None : goal.returns-in-Ok-None
@@ -28,3 +30,8 @@ returns-in-Err-made g c = NoMemory [] (reads_none _ _ [] refl) (λ other. refl) 
 
 pub returns-in_default : goal.returns-in_default
 returns-in_default g c = c.replied.ensures (map string_bytes c.args.words.now) (sym c.in-Ok-Some.ensures.value ∙ c.in-Ok-Some.field-0-is)
+
+-- what is served is built
+pub replied-requires-clause-built : goal.replied-requires-clause-built
+replied-requires-clause-built g c =
+    built_only (asks (map string_bytes c.args.words.now)) c.in-Ok-Some.request (sym c.in-Ok-Some.ensures.value ∙ c.in-Ok-Some.field-0-is)

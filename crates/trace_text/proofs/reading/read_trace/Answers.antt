@@ -55,7 +55,9 @@ returns-then-not-is_empty-clause-only c =
 pub returns-then-not-is_empty-clause-bad : goal.returns-then-not-is_empty-clause-bad
 returns-then-not-is_empty-clause-bad c =
     let inner : IsInner c.lines.rest.now = search rules in
+    let some : c.lines.rest.now ≡ [] → ⊥ = search rules in
     bad_end c.said_laws.ensures.one c.said_laws.ensures.no_end c.args.bytes.now c.lines.rest.now c.lines.number c.lines.builder c.lines.invariant inner
+    (λ t stands. some (at_end c.said_laws.ensures.one c.said_laws.ensures.no_end c.args.bytes.now c.lines.rest.now c.lines.number c.lines.builder c.lines.invariant t inner stands).0)
 
 pub returns-in-Some-ended-clause-found : goal.returns-in-Some-ended-clause-found
 returns-in-Some-ended-clause-found c =
@@ -78,3 +80,5 @@ pub returns-in-None-clause-bad : goal.returns-in-None-clause-bad
 returns-in-None-clause-bad c =
     let inner : IsInner c.lines.rest.now = search rules in
     bad_end c.said_laws.ensures.one c.said_laws.ensures.no_end c.args.bytes.now c.lines.rest.now c.lines.number c.lines.builder c.lines.invariant inner
+    (λ t stands. no_trace c.lines.builder t
+    (at_end c.said_laws.ensures.one c.said_laws.ensures.no_end c.args.bytes.now c.lines.rest.now c.lines.number c.lines.builder c.lines.invariant t inner stands).1 (sym c.in-None.ensures))

@@ -1,6 +1,6 @@
 use Rattle.std.proofs.Common.{◌≡◌, ◌++◌, ◌∷◌, take, string_bytes}
 use Rattle.std.specs.List.{flat_map}
-use Rattle.trace_words.specs.Answers.{harvested}
+use Rattle.trace_causes.specs.Values.{harvested}
 use Rattle.trace_words.proofs.answers.put_harvested.Given as goal
 
 abbrev pub invariant-loop-id : goal.invariant-loop-id

@@ -1,7 +1,0 @@
-use Rattle.std.proofs.Common.{[]}
-use Rattle.tap_report.specs.Index.{phase_backings}
-use Rattle.tap_report.proofs.Loops.{appended}
-use Rattle.tap_report.proofs.index.backings.Goals as goal
-
-pub loop-phase-preserved : goal.loop-phase-preserved
-loop-phase-preserved c = appended phase_backings [] _ _ c.args.phases.now c.loop-phase.phase-index c.phase-item.result _ c.loop-phase-test.true c.phase-item.is c.loop-phase.invariant c.in_ok-push_backings.ensures

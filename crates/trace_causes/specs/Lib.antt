@@ -1,0 +1,10 @@
+pub mod CauseReading
+pub mod Causes
+pub mod Fits
+pub mod Laws
+pub mod OpReading
+pub mod Operations
+pub mod Reading
+pub mod Table
+pub mod Values
+pub mod Words
