@@ -41,3 +41,4 @@ mod TableKept
 mod TableEvents
 mod Backers
 mod BackerEvents
+mod Tabled

@@ -11,6 +11,7 @@ ghost use Rattle.tap_sound.specs.Kept.{ClaimsAreKept, EpochsAreKept, LinesAreKep
 ghost use Rattle.tap_sound.specs.Laws.{AllIsDone, EventsAreScripts, EventsBeginScripts, OrderIsRun};
 ghost use Rattle.tap_sound.specs.Names.{NamesAreKept, NamesStandAfterRuns, NamesStandInRuns};
 ghost use Rattle.tap_sound.specs.Reached.{PhaseIsKept, RunIsKept};
+ghost use Rattle.tap_sound.specs.Tabled.{TableIsKept};
 ghost use Rattle.tap_sound.specs.Used.{UsedIsCounted};
 
 /// In a run the events of each actor are the scripts of its commands, one after another; on the way to its end the last
@@ -69,6 +70,11 @@ pub fn shut_is_kept()
 /// Every event keeps that the writer and the rings' turns are held exactly by the commands that hold them.
 pub fn holders_are_kept()
     ensures { HoldersAreKept }
+{}
+
+/// Every event keeps what files and rings have of the queue table, but for the command that holds the writer.
+pub fn table_is_kept()
+    ensures { TableIsKept }
 {}
 
 /// So these parts of soundness hold in each world that a run ends in, and in each world on the way.
