@@ -32,7 +32,7 @@ use Rattle.tap_sound.proofs.Agreeing.{Files, Fits, goes_on, reopening, shutting,
 use Rattle.tap_sound.proofs.Kept.{effect_files, effect_ops}
 use Rattle.tap_sound.proofs.Publishing.{equal, publishing, sets_rx, sets_tx, unsets_rx, unsets_tx, withdrawing}
 use Rattle.tap_sound.proofs.Shapes.{Alike, IsLast, Shape}
-use Rattle.tap_sound.proofs.Shapes.Shape.{Approves, BackApproves, BackDrives, BackPublishes, Calling, Learning, Owning, Publishing, Quiet, Reopening, RxTurning, Shutting, Sizing, Touching, Trims, TxTurning, Withdrawing}
+use Rattle.tap_sound.proofs.Shapes.Shape.{Giving, Approves, BackApproves, BackDrives, BackPublishes, Calling, Learning, Owning, Publishing, Quiet, Reopening, RxTurning, Shutting, Sizing, Touching, Trims, TxTurning, Withdrawing}
 use Rattle.tap_sound.proofs.Standing.{answered, first_passed, ring_there}
 use Rattle.tap_sound.proofs.TableFiles.{back_finds, detach_finds, learn_same}
 use Rattle.tap_sound.proofs.Taken.{IsEnding, IsStep, both, when_settled}
@@ -283,6 +283,8 @@ backings_between : (s : Setup) (w : World) (x : Event) (u : World) (t : IsStep s
     → View w t.between t.actor.doing (doing_after t.effect.onward t.actor.doing) t.now.command → FitsWorld s w → Backings s w → Backings s t.between
 backings_between s w x u t can (Quiet o f g v wr alike) view_ fits h =
     steady_backs s w x u t [] (alike_view w t.between t.actor.doing t.effect.onward t.now.command alike view_) o refl (from_none s w x u t v) h
+backings_between s w x u t can (Giving vhost file q told o f g v wr k) view_ fits h =
+    free_backs s w x u t view_ (ap holds k.doing) (ap (λ (y : Onward). holds (doing_after y t.actor.doing)) k.goes) o (from_none s w x u t v) h
 backings_between s w x u t can (Trims file n m k f is eq) view_ fits h =
     let v = goes_within s w x u t (Shrinks file n m) (Shrinks file n k) t.now.command _ eq (at_view w t.between _ (Shrinks file n m) _ _ t.now.command is (ap (doing_after t.effect.onward) is) view_) refl refl refl in
     even s w x u t (Shrinks file n m) (Shrinks file n k) (Some t.now.command) (Some t.now.command) [] v.0 v.1 (ops_on s w x u t _ eq) (from_none s w x u t (on_vhosts s w x u t _ eq)) (λ q i. refl) h

@@ -39,7 +39,7 @@ use Rattle.tap_sound.proofs.Kept.{effect_files, effect_ops}
 use Rattle.tap_sound.proofs.Publishing.{equal, publishing, sets_rx, sets_tx, unsets_rx, unsets_tx, withdrawing}
 use Rattle.tap_sound.proofs.Shapes as shapes
 use Rattle.tap_sound.proofs.Shapes.{Alike, IsLast, Shape}
-use Rattle.tap_sound.proofs.Shapes.Shape.{Approves, BackApproves, BackDrives, BackPublishes, Calling, Learning, Owning, Publishing, Quiet, Reopening, RxTurning, Shutting, Sizing, Touching, Trims, TxTurning, Withdrawing}
+use Rattle.tap_sound.proofs.Shapes.Shape.{Giving, Approves, BackApproves, BackDrives, BackPublishes, Calling, Learning, Owning, Publishing, Quiet, Reopening, RxTurning, Shutting, Sizing, Touching, Trims, TxTurning, Withdrawing}
 use Rattle.tap_sound.proofs.Standing.{answered, first_passed, ring_there}
 use Rattle.tap_sound.proofs.TableFiles.{back_finds, detach_finds, learn_same}
 use Rattle.tap_sound.proofs.Taken.{IsEnding, IsStep, both, when_settled}

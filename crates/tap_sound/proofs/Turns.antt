@@ -41,7 +41,7 @@ use Rattle.tap_sound.proofs.Calls.Called.{Addr, Base, Features, Num, Untouched}
 use Rattle.tap_sound.proofs.Claims.{with_at_inv}
 use Rattle.tap_sound.proofs.Scripts.{effect_actors}
 use Rattle.tap_sound.proofs.Shapes.{Alike, IsLast, RxWay, Shape, TxWay}
-use Rattle.tap_sound.proofs.Shapes.Shape.{Approves, BackApproves, BackDrives, BackPublishes, Calling, Learning, Owning, Publishing, Quiet, Reopening, RxTurning, Shutting, Sizing, Touching, Trims, TxTurning, Withdrawing}
+use Rattle.tap_sound.proofs.Shapes.Shape.{Giving, Approves, BackApproves, BackDrives, BackPublishes, Calling, Learning, Owning, Publishing, Quiet, Reopening, RxTurning, Shutting, Sizing, Touching, Trims, TxTurning, Withdrawing}
 use Rattle.tap_sound.proofs.Standing.{answered, first_passed, ring_there}
 use Rattle.tap_sound.proofs.Taken.{IsEnding, IsStep, both, when_settled}
 use Rattle.tap_sound.proofs.Turned.{IsThere, Turned, held_on, is_at, itself, others, others_on, there_on, with_nth_inv, with_nth_there}
@@ -267,6 +267,8 @@ back_takes w me d vhost ring file v is at_ turn = go (is_ring ring) refl turn re
 
 pub turning : (s : Setup) (w : World) (me seen : ℕ) (d : Doing) (c : Command) (r : Effect) → can_be d c ≡ true → Shape s w me seen d c r → Turning w me d c r
 turning s w me seen d c r can (Quiet o f g v wr alike) = Unmoved (none_changed w r v) (alike_turns d r.onward alike)
+turning s w me seen d c r can (Giving vhost file t told o f g v wr h) =
+    Unmoved (none_changed w r v) (ap (λ (q : Onward). holds_turn (doing_after q d)) h.goes ∙ sym (ap holds_turn h.doing))
 turning s w me seen d c r can (Trims file n m k f is eq) = subst (Turning w me d c) eq (Unmoved (λ n v at_. (v, at_, refl, refl)) (sym (ap holds_turn is)))
 turning s w me seen d c r can (Approves x is of free no_ eq) = subst (Turning w me d c) eq (Unmoved (λ n v at_. (v, at_, refl, refl))
     (course_is (λ (e : Doing). holds_turn e ≡ false) (table s w) x (λ file. refl) (λ file. refl) (λ file k. refl) refl ∙ sym (ap holds_turn is)))

@@ -37,7 +37,7 @@ use Rattle.tap_world.specs.SoundActors.{can_be}
 use Rattle.tap_sound.proofs.Kit.{either, some_same, then_some}
 use Rattle.tap_sound.proofs.Scripts.{effect_actors}
 use Rattle.tap_sound.proofs.Shapes.{Alike, IsLast, RxWay, Shape, TxWay}
-use Rattle.tap_sound.proofs.Shapes.Shape.{Approves, BackApproves, BackDrives, BackPublishes, Calling, Learning, Owning, Publishing, Quiet, Reopening, RxTurning, Shutting, Sizing, Touching, Trims, TxTurning, Withdrawing}
+use Rattle.tap_sound.proofs.Shapes.Shape.{Giving, Approves, BackApproves, BackDrives, BackPublishes, Calling, Learning, Owning, Publishing, Quiet, Reopening, RxTurning, Shutting, Sizing, Touching, Trims, TxTurning, Withdrawing}
 use Rattle.tap_sound.proofs.Standing.{answered}
 use Rattle.tap_sound.proofs.Taken.{IsEnding, IsStep, when_settled}
 use Rattle.tap_sound.proofs.Turned.{IsThere, Turned, held_on, is_at, itself, others, others_on, there_on, with_nth_inv, with_nth_there}
@@ -141,6 +141,8 @@ tx_free d file t told v (inr is) = ap holds is.0
 
 pub holding : (s : Setup) (w : World) (me seen : ℕ) (d : Doing) (c : Command) (r : Effect) → can_be d c ≡ true → Shape s w me seen d c r → Holding w me d r
 holding s w me seen d c r can (Quiet o f g v wr alike) = Rests wr (alike_holds d r.onward alike)
+holding s w me seen d c r can (Giving vhost file t told o f g v wr h) =
+    Rests wr (ap (λ (q : Onward). holds (doing_after q d)) h.goes ∙ sym (ap holds h.doing))
 holding s w me seen d c r can (Trims file n m k f is eq) = subst (Holding w me d) eq (Rests refl (sym (ap holds is)))
 holding s w me seen d c r can (Approves x is of free no_ eq) = subst (Holding w me d) eq (Takes free refl (course_is (λ (e : Doing). holds e ≡ true) (table s w) x (λ file. refl) (λ file. refl) (λ file k. refl) refl))
 holding s w me seen d c r can (BackApproves vhost ring file v is cis at_ free turn no_ eq) = subst (Holding w me d) eq (Takes free refl refl)
