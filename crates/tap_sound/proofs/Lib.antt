@@ -42,3 +42,5 @@ mod TableEvents
 mod Backers
 mod BackerEvents
 mod Tabled
+mod RingSteps
+mod Serving

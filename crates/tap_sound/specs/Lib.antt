@@ -5,3 +5,4 @@ pub mod Reached
 pub mod Held
 pub mod Names
 pub mod Tabled
+pub mod Served
