@@ -44,3 +44,4 @@ mod BackerEvents
 mod Tabled
 mod RingSteps
 mod Serving
+mod ServedOn

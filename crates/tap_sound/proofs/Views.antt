@@ -61,7 +61,7 @@ now_after (Ends seen x) a n at_ h = absurd (true≢false (sym h))
 now_after (Stays f) a n at_ h = now_of a n at_
 
 -- the actor that acted, after it
-acted : (s : Setup) (w : World) (x : Event) (u : World) (t : IsStep s w x u) → slice_get t.between.actors x.actor ≡ Some (actor_after t.effect.onward t.actor)
+pub acted : (s : Setup) (w : World) (x : Event) (u : World) (t : IsStep s w x u) → slice_get t.between.actors x.actor ≡ Some (actor_after t.effect.onward t.actor)
 acted s w x u t =
     ap (λ (q : List Actor). slice_get q x.actor) (effect_actors t.effect x.actor t.actor x.command w t.between t.made)
     ∙ ap (λ (o : Option Actor). o) (here x.actor w.actors t.actor t.found)
@@ -72,7 +72,7 @@ acted s w x u t =
     here (suc n) (y ∷ ys) a e = here n ys a e
 
 -- the others are as they were
-other_still : (n i : ℕ) (new : Actor) (xs : List Actor) → n ≢ i → slice_get (with_nth n new xs) i ≡ slice_get xs i
+pub other_still : (n i : ℕ) (new : Actor) (xs : List Actor) → n ≢ i → slice_get (with_nth n new xs) i ≡ slice_get xs i
 other_still n i new [] no_ = refl
 other_still zero zero new (y ∷ ys) no_ = absurd (no_ refl)
 other_still zero (suc i) new (y ∷ ys) no_ = refl
