@@ -45,3 +45,4 @@ mod Tabled
 mod RingSteps
 mod Serving
 mod ServedOn
+mod RingEvents

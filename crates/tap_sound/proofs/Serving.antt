@@ -81,7 +81,7 @@ rx_about vhost ring c d file t can is = absurd (true≢false (sym can))
 
 -- ---- one step of a turn
 
-hdr_more : (s : Settings) → 0 < hdr_of s
+pub hdr_more : (s : Settings) → 0 < hdr_of s
 hdr_more s = go (s.mrg || s.version_1)
   where
     go : (b : Bool) → 0 < (if b then 12 else 10)
