@@ -46,3 +46,4 @@ mod RingSteps
 mod Serving
 mod ServedOn
 mod RingEvents
+mod RingsKept

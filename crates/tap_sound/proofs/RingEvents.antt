@@ -79,25 +79,25 @@ not_serving d h = go (serves d) refl
 
 -- ---- the command that acts
 
-alike_course : (w : World) (d : Doing) (o : Onward) (c : Command) → Alike d o → Course w d o c
+pub alike_course : (w : World) (d : Doing) (o : Onward) (c : Command) → Alike d o → Course w d o c
 alike_course w d (Stays f) c h = On refl tt (λ vhost ring v at_ ab k. k)
 alike_course w d (Ends seen x) c h = Free (not_serving d h.1) refl
 alike_course w d (Goes seen e f) c h = On h.3 tt (λ vhost ring v at_ ab k. h.4 v k)
 
-last_serves : (d : Doing) → IsLast d → serves d ≡ false
+pub last_serves : (d : Doing) → IsLast d → serves d ≡ false
 last_serves Changes h = refl
 last_serves (Opened file) h = refl
 last_serves (Shrinks file n m) h = refl
 last_serves d h = absurd h
 
-back_course : (w : World) (d : Doing) (vhost ring : ℕ) (asked : Option ℕ) (r : Effect) (c : Command) → back_steps.publishes_back w d (command.Backend vhost ring asked) ≡ Some r → Course w d r.onward c
+pub back_course : (w : World) (d : Doing) (vhost ring : ℕ) (asked : Option ℕ) (r : Effect) (c : Command) → back_steps.publishes_back w d (command.Backend vhost ring asked) ≡ Some r → Course w d r.onward c
 back_course w (Backed file) vhost ring asked r c e = subst (λ (q : Effect). Course w (Backed file) q.onward c) (some_same _ r e)
     (either (λ (q : Effect). Course w (Backed file) q.onward c) (ring == 0) _ _ (Free refl refl) (Free refl refl))
 back_course w (Disowned file) vhost ring asked r c e = subst (λ (q : Effect). Course w (Disowned file) q.onward c) (some_same _ r e) (Free refl refl)
 back_course w (Released file) vhost ring asked r c e = subst (λ (q : Effect). Course w (Released file) q.onward c) (some_same _ r e) (Free refl refl)
 back_course w d vhost ring asked r c e = absurd (cc (e))
 
-own_course : (w : World) (seen : ℕ) (d : Doing) (vhost ring : ℕ) (asked : Option ℕ) (r : Effect) (c : Command) → back_steps.owns w seen d (command.Backend vhost ring asked) ≡ Some r → Course w d r.onward c
+pub own_course : (w : World) (seen : ℕ) (d : Doing) (vhost ring : ℕ) (asked : Option ℕ) (r : Effect) (c : Command) → back_steps.owns w seen d (command.Backend vhost ring asked) ≡ Some r → Course w d r.onward c
 own_course w seen (Owns file version) vhost ring asked r c e = subst (λ (q : Effect). Course w (Owns file version) q.onward c) (some_same _ r e) (Free refl refl)
 own_course w seen (Unbacked file) vhost ring asked r c e = subst (λ (q : Effect). Course w (Unbacked file) q.onward c) (some_same _ r e) (Free refl refl)
 own_course w seen d vhost ring asked r c e = absurd (cc (e))
@@ -106,14 +106,14 @@ own_course w seen d vhost ring asked r c e = absurd (cc (e))
 rx_only : (vhost n ring : ℕ) → about n ring (command.RxTurn vhost) ≡ true → (vhost ≡ n) × (0 ≡ ring)
 rx_only vhost n ring e = let b = both (vhost == n) (0 == ring) e in (equal vhost n b.0, equal 0 ring b.1)
 
-tx_only : (vhost n ring : ℕ) → about n ring (command.TxTurn vhost) ≡ true → (vhost ≡ n) × (1 ≡ ring)
+pub tx_only : (vhost n ring : ℕ) → about n ring (command.TxTurn vhost) ≡ true → (vhost ≡ n) × (1 ≡ ring)
 tx_only vhost n ring e = let b = both (vhost == n) (1 == ring) e in (equal vhost n b.0, equal 1 ring b.1)
 
 -- the vhost of a turn
-this_one : (w : World) (vhost n : ℕ) (v u : Vhost) → vhost ≡ n → at w.vhosts vhost ≡ Some v → at w.vhosts n ≡ Some u → v ≡ u
+pub this_one : (w : World) (vhost n : ℕ) (v u : Vhost) → vhost ≡ n → at w.vhosts vhost ≡ Some v → at w.vhosts n ≡ Some u → v ≡ u
 this_one w vhost n v u same a b = some_same v u (sym a ∙ ap (at w.vhosts) same ∙ b)
 
-rx_course : (w : World) (seen vhost file : ℕ) (d : Doing) (v : Vhost) (u : RxTurn) (q : Queue) (f : Found) → at w.vhosts vhost ≡ Some v → q ≡ v.settings.rx.queue
+pub rx_course : (w : World) (seen vhost file : ℕ) (d : Doing) (v : Vhost) (u : RxTurn) (q : Queue) (f : Found) → at w.vhosts vhost ≡ Some v → q ≡ v.settings.rx.queue
     → ((serves d ≡ true) × (d ≡ d)) ⊎ ((serves d ≡ false) × (v.settings.rx.file ≡ Some file)) → RxStands u q → (o : Option End) → rx_turns.rx_over u.stage ≡ o
     → Course w d (rx_turns.rx_onward seen file u f o) (command.RxTurn vhost)
 rx_course w seen vhost file d v u q f at_ same (inl was) stands None over =
@@ -133,7 +133,7 @@ rx_course w seen vhost file d v u q f at_ same was stands (Some e) over =
     subst (λ (z : Vhost). IsIdle (ring_at ring z.settings).queue.positions) it
     (subst (λ (k : ℕ). IsIdle (ring_at k v.settings).queue.positions) only_.1 (subst (λ (z : Queue). IsIdle z.positions) same (rx_idle u q u.stage e refl over stands))))
 
-tx_course : (w : World) (seen vhost file : ℕ) (d : Doing) (v : Vhost) (u : TxTurn) (told : List ChainText) (q : Queue) (f : Found) → at w.vhosts vhost ≡ Some v → q ≡ v.settings.tx.queue
+pub tx_course : (w : World) (seen vhost file : ℕ) (d : Doing) (v : Vhost) (u : TxTurn) (told : List ChainText) (q : Queue) (f : Found) → at w.vhosts vhost ≡ Some v → q ≡ v.settings.tx.queue
     → ((serves d ≡ true) × (d ≡ d)) ⊎ ((serves d ≡ false) × (v.settings.tx.file ≡ Some file)) → TxStands u q → (o : Option End) → tx_turns.tx_over u.stage ≡ o
     → Course w d (tx_turns.tx_onward seen file u told f o) (command.TxTurn vhost)
 tx_course w seen vhost file d v u told q f at_ same (inl was) stands None over =
@@ -163,16 +163,16 @@ with_at_get zero new (x ∷ xs) (suc k) a e = inr (λ h. omega (arith, h), e)
 with_at_get (suc n) new (x ∷ xs) zero a e = inr (λ h. omega (arith, h), e)
 with_at_get (suc n) new (x ∷ xs) (suc k) a e = ⊎_elim (λ t. inl (ap suc t.0, t.1)) (λ t. inr (λ h. t.0 (omega (arith, h)), t.1)) (with_at_get n new xs k a e)
 
-effect_guests : (r : Effect) (actor : ℕ) (a : Actor) (n : ℕ) (w v : World) → with_effect r actor a n w ≡ Some v → guests_after actor n r.guests w.guests ≡ Some v.guests
+pub effect_guests : (r : Effect) (actor : ℕ) (a : Actor) (n : ℕ) (w v : World) → with_effect r actor a n w ≡ Some v → guests_after actor n r.guests w.guests ≡ Some v.guests
 effect_guests r actor a n w v e =
     let f = then_some (files_after r.files w.files) _ v e in
     let g = then_some (guests_after actor n r.guests w.guests) _ v f.2 in
     g.1 ∙ ap (λ (x : World). Some x.guests) (some_same _ v g.2)
 
-no_guests : (w : World) (actor n : ℕ) (after_ : List (Option Guest)) → guests_after actor n NoGuest w.guests ≡ Some after_ → OldGuests w after_
+pub no_guests : (w : World) (actor n : ℕ) (after_ : List (Option Guest)) → guests_after actor n NoGuest w.guests ≡ Some after_ → OldGuests w after_
 no_guests w actor n after_ e k g at_ = (g, ap (λ (q : List (Option Guest)). at q k) (sym (some_same w.guests after_ e)) ∙ at_, refl)
 
-one_guest : (w : World) (actor n guest : ℕ) (m : Contents) (step : Option Kind) (g : Guest) (after_ : List (Option Guest)) → at w.guests guest ≡ Some g → m.regions ≡ g.memory.regions
+pub one_guest : (w : World) (actor n guest : ℕ) (m : Contents) (step : Option Kind) (g : Guest) (after_ : List (Option Guest)) → at w.guests guest ≡ Some g → m.regions ≡ g.memory.regions
     → guests_after actor n (OnGuest guest m step) w.guests ≡ Some after_ → OldGuests w after_
 one_guest w actor n guest m step g after_ found same e k y at_ =
     let h = then_some (at w.guests guest) _ after_ e in
@@ -182,10 +182,10 @@ one_guest w actor n guest m step g after_ found same e k y at_ =
     (λ there. (y, ap (λ (q : List (Option Guest)). at q k) (sym is) ∙ there.1, refl))
     (with_at_get guest _ w.guests k y at_)
 
-none_rings : (w : World) → OldRings w w.vhosts
+pub none_rings : (w : World) → OldRings w w.vhosts
 none_rings w n new e = (new, e, (refl, refl, refl))
 
-one_rings : (w : World) (vhost : ℕ) (v new : Vhost) → at w.vhosts vhost ≡ Some v → SameRings v new → OldRings w (with_at vhost new w.vhosts)
+pub one_rings : (w : World) (vhost : ℕ) (v new : Vhost) → at w.vhosts vhost ≡ Some v → SameRings v new → OldRings w (with_at vhost new w.vhosts)
 one_rings w vhost v new found same n it e = ⊎_elim
     (λ here. (
       v,
@@ -195,32 +195,32 @@ one_rings w vhost v new found same n it e = ⊎_elim
     (λ there. (it, there.1, (refl, refl, refl)))
     (with_at_inv vhost new w.vhosts n it e)
 
-turn_rings : (ring : ℕ) (o : Option ℕ) (v : Vhost) → SameRings v (with_turn ring o v)
+pub turn_rings : (ring : ℕ) (o : Option ℕ) (v : Vhost) → SameRings v (with_turn ring o v)
 turn_rings ring o v = go (ring == 0)
   where
     go : (b : Bool) → SameRings v (if b then record v { rx_turn = o } else record v { tx_turn = o })
     go true = (refl, refl, refl)
     go false = (refl, refl, refl)
 
-rx_rings : (o : Option ℕ) (q : Queue) (v : Vhost) → q ≡ v.settings.rx.queue → SameRings v (with_turn 0 o (with_queue 0 q v))
+pub rx_rings : (o : Option ℕ) (q : Queue) (v : Vhost) → q ≡ v.settings.rx.queue → SameRings v (with_turn 0 o (with_queue 0 q v))
 rx_rings o q v same = (refl, ap (λ (y : Queue). record v.settings.rx { queue = y }) same, refl)
 
-tx_rings : (o : Option ℕ) (q : Queue) (v : Vhost) → q ≡ v.settings.tx.queue → SameRings v (with_turn 1 o (with_queue 1 q v))
+pub tx_rings : (o : Option ℕ) (q : Queue) (v : Vhost) → q ≡ v.settings.tx.queue → SameRings v (with_turn 1 o (with_queue 1 q v))
 tx_rings o q v same = (refl, refl, ap (λ (y : Queue). record v.settings.tx { queue = y }) same)
 
 -- ---- which stages
 
-no_change : (k j : EventKind) → leaves_rings k ≡ true → leaves_rings j ≡ false → is_kind k (Some j) ≡ true → ⊥
+pub no_change : (k j : EventKind) → leaves_rings k ≡ true → leaves_rings j ≡ false → is_kind k (Some j) ≡ true → ⊥
 no_change k j a b e = true≢false (sym a ∙ ap leaves_rings (same_kind k j e) ∙ b)
 
-rx_stays : (w : World) (file : ℕ) (st : RxStage) (k : EventKind) → leaves_rings k ≡ true → is_kind k (rx_next_kind w file st) ≡ true → rx_changes st ≡ false
+pub rx_stays : (w : World) (file : ℕ) (st : RxStage) (k : EventKind) → leaves_rings k ≡ true → is_kind k (rx_next_kind w file st) ≡ true → rx_changes st ≡ false
 rx_stays w file rx.Fetch k a e = absurd (no_change k event.Fetch a refl e)
 rx_stays w file rx.FetchAgain k a e = absurd (no_change k event.Fetch a refl e)
 rx_stays w file rx.Copy k a e = absurd (no_change k event.Copy a refl e)
 rx_stays w file (rx.Publish end) k a e = absurd (no_change k event.PublishUsed a refl e)
 rx_stays w file st k a e = refl
 
-tx_stays : (st : TxStage) (k : EventKind) → leaves_rings k ≡ true → is_kind k (tx_next_kind st) ≡ true → tx_changes st ≡ false
+pub tx_stays : (st : TxStage) (k : EventKind) → leaves_rings k ≡ true → is_kind k (tx_next_kind st) ≡ true → tx_changes st ≡ false
 tx_stays tx.Fetch k a e = absurd (no_change k event.Fetch a refl e)
 tx_stays tx.FetchAgain k a e = absurd (no_change k event.Fetch a refl e)
 tx_stays tx.Copy k a e = absurd (no_change k event.Copy a refl e)
@@ -228,7 +228,7 @@ tx_stays (tx.Publish end) k a e = absurd (no_change k event.PublishUsed a refl e
 tx_stays st k a e = refl
 
 -- a call is made at its Drive
-call_drives : (w : World) (c : Command) (vhost : ℕ) → control.vhost_of c ≡ Some vhost → first_kind w c ≡ event.Drive
+pub call_drives : (w : World) (c : Command) (vhost : ℕ) → control.vhost_of c ≡ Some vhost → first_kind w c ≡ event.Drive
 call_drives w (command.Features n bits) vhost e = refl
 call_drives w (command.VNum n ring k) vhost e = refl
 call_drives w (command.VBase n ring k) vhost e = refl
@@ -239,3 +239,7 @@ call_drives w (command.PostIn n ring lens) vhost e = refl
 call_drives w (command.PostOut n ring bytes) vhost e = refl
 call_drives w (command.Harvest n ring) vhost e = refl
 call_drives w c vhost e = absurd (cc (e))
+
+-- a turn that is free
+pub free_none : (ring : ℕ) (v : Vhost) → is_free ring v ≡ true → turn_of ring v ≡ None
+free_none ring v h = none_of (turn_of ring v) h

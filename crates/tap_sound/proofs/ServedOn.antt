@@ -124,7 +124,7 @@ module _ (s : Setup) (w : World) (x : Event) (u : World) (t : IsStep s w x u) wh
       (λ other. none i a (other_of i a other.1 at_) sv)
       (eqb_tells x.actor i)
 
-  served_between : Course w t.actor.doing t.effect.onward t.now.command → OldRings w t.between.vhosts → EachVhost w (IsServed w) → EachVhost t.between (IsServed t.between)
+  pub served_between : Course w t.actor.doing t.effect.onward t.now.command → OldRings w t.between.vhosts → EachVhost w (IsServed w) → EachVhost t.between (IsServed t.between)
   served_between course rings each vhost new at_ =
       let old = rings vhost new at_ in
       let h = each vhost old.0 old.1 in

@@ -11,6 +11,7 @@ ghost use Rattle.tap_sound.specs.Kept.{ClaimsAreKept, EpochsAreKept, LinesAreKep
 ghost use Rattle.tap_sound.specs.Laws.{AllIsDone, EventsAreScripts, EventsBeginScripts, OrderIsRun};
 ghost use Rattle.tap_sound.specs.Names.{NamesAreKept, NamesStandAfterRuns, NamesStandInRuns};
 ghost use Rattle.tap_sound.specs.Reached.{PhaseIsKept, RunIsKept};
+ghost use Rattle.tap_sound.specs.Served.{RingsAreKept};
 ghost use Rattle.tap_sound.specs.Tabled.{TableIsKept};
 ghost use Rattle.tap_sound.specs.Used.{UsedIsCounted};
 
@@ -76,6 +77,15 @@ pub fn holders_are_kept()
 pub fn table_is_kept()
     ensures { TableIsKept }
 {}
+
+/// Every event but four keeps that the rings of vhosts are in order, and stand with the turns that serve them: a call on a
+/// vhost, and the events of a turn that fetch, copy and publish.
+pub fn rings_are_kept()
+    ensures { RingsAreKept }
+{
+    vring_turns::receive_standing();
+    vring_turns::transmit_standing();
+}
 
 /// So these parts of soundness hold in each world that a run ends in, and in each world on the way.
 pub fn run_is_kept()
