@@ -12,7 +12,7 @@ ghost use Rattle.tap_sound.specs.Held.{HoldersAreKept};
 ghost use Rattle.tap_sound.specs.Kept.{ClaimsAreKept, EpochsAreKept, LinesAreKept, RoomIsKept, ShutIsKept, StandsAreKept, VersionsAreKept};
 ghost use Rattle.tap_sound.specs.Laws.{AllIsDone, EventsAreScripts, EventsBeginScripts, OrderIsRun};
 ghost use Rattle.tap_sound.specs.Names.{NamesAreKept, NamesStandAfterRuns, NamesStandInRuns};
-ghost use Rattle.tap_sound.specs.Reached.{PhaseIsKept, RunIsKept};
+ghost use Rattle.tap_sound.specs.Reached.{PhaseIsKept, ReachedIsKept, RunIsKept};
 ghost use Rattle.tap_sound.specs.Room.{RoomIsAlwaysKept};
 ghost use Rattle.tap_sound.specs.Used.{UsedIsCounted};
 
@@ -78,6 +78,7 @@ pub fn holders_are_kept()
 pub fn run_is_kept()
     ensures whole { RunIsKept }
     ensures phase { PhaseIsKept }
+    ensures reached { ReachedIsKept }
 {}
 
 /// Every event keeps that each name stands at most once, and that each accepted name stands but between the event that
