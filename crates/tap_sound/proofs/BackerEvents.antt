@@ -70,7 +70,6 @@ onto_backs : (v : World) (d : Doing) (c : Option Command) (t : Table) (vhosts : 
 onto_backs v d c t vhosts is h = subst (λ (x : Doing). HaveBackends x (commanded v) t vhosts) (sym is.0) (subst (λ (k : Option Command). HaveBackends d k t vhosts) (sym is.1) h)
 
 module _ (s : Setup) (w : World) (x : Event) (u : World) (t : IsStep s w x u) where
-
   vhosts_on : (o : OnVhosts) → t.effect.vhosts ≡ o → t.between.vhosts ≡ vhosts_after o w.vhosts
   vhosts_on o is = effect_vhosts t.effect x.actor t.actor x.command w t.between t.made ∙ ap (λ (q : OnVhosts). vhosts_after q w.vhosts) is
 

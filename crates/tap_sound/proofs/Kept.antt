@@ -134,7 +134,7 @@ sizes_left event.Publish e = absurd (true≢false (sym e))
 sizes_left event.Resize e = absurd (true≢false (sym e))
 sizes_left k e = (refl, refl)
 
-same_table : (s : Setup) (w : World) (x : Event) (u : World) (t : IsStep s w x u) → t.effect.ops ≡ [] → table s u ≡ table s w
+pub same_table : (s : Setup) (w : World) (x : Event) (u : World) (t : IsStep s w x u) → t.effect.ops ≡ [] → table s u ≡ table s w
 same_table s w x u t none =
     let between : t.between.ops ≡ w.ops = effect_ops t.effect x.actor t.actor x.command w t.between t.made
     ∙ ap (λ (ops : List Op). w.ops ++ map (λ (y : Op). record { phase = w.phase; actor = x.actor; command = x.command; op = y }) ops) none ∙ with_none w.ops in

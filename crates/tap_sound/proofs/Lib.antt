@@ -33,6 +33,13 @@ mod NamesTurns
 mod NamesRows
 mod NamesTimes
 mod NamesKept
+mod RoomTable
+mod RoomRows
+mod RoomKept
+mod FileRows
+mod HandTurns
+mod HandFiles
+mod HandKept
 mod Views
 mod TableFiles
 mod Agreeing

@@ -3,25 +3,23 @@ use Rattle.std.proofs.Common.{◌≡◌, ◌⊎◌, ℕ, zero, suc, ◌+◌, ◌
 use Rattle.std.specs.Prelude.{drop, option_map, slice_get}
 use Rattle.std.specs.List.{AllByRecursion}
 use Rattle.tap_frame.specs.declared.name.Name.{Name}
-use Rattle.tap_trace.specs.declared.answer.Answer.{Answer}
 use Rattle.scen_text.specs.declared.scenario.Phase.{Phase}
 use Rattle.scen_text.specs.declared.scenario.Scenario.{Scenario}
 use Rattle.tap_world.specs.declared.event.Event.{Event}
 use Rattle.tap_world.specs.declared.event.Heard.{Heard}
 use Rattle.tap_world.specs.Setup.{Declared, Numbered, Setup, script_in, setup_of}
-use Rattle.tap_world.specs.Line.{File}
 use Rattle.tap_world.specs.World.{Actor, Doing, Said, World, current, newest}
 use Rattle.tap_world.specs.World.Doing.{Begun}
 use Rattle.tap_world.specs.Effect.{Effect, Ending, Onward, actor_after, ended, files_after, guests_after, said_after, with_effect}
 use Rattle.tap_world.specs.Effect.Onward.{Ends, Goes, Stays}
 use Rattle.tap_world.specs.Step.{step}
 use Rattle.tap_world.specs.Stands.{names_of, times, times_in, times_placed}
-use Rattle.tap_world.specs.SoundNames.{AcceptedStand, EndedStand, NamesStandOnce, accepted_by, accepted_in, awaited}
+use Rattle.tap_world.specs.SoundNames.{AcceptedStand, EndedStand, NamesStandOnce, accepted_by, awaited}
 use Rattle.tap_world.specs.Runs.{IsRun, actors_from, begins, has_ended, new_file, opening, run, run_phases}
-use Rattle.tap_sound.specs.Names.{IsReached}
+use Rattle.tap_sound.specs.Reached.{IsReached}
 use Rattle.tap_sound.proofs.Kit.{some_same, then_some, where_some}
 use Rattle.tap_sound.proofs.Scripts.{effect_actors}
-use Rattle.tap_sound.proofs.Taken.{IsEnding, IsStep, each_with_nth, if_some, step_is, when_settled, with_nth_get}
+use Rattle.tap_sound.proofs.Taken.{IsStep, each_with_nth, if_some, step_is, when_settled}
 use Rattle.tap_sound.proofs.NamesRows.{All, Stood, StoodAfter, Tells, all_weaker, row_tells}
 use Rattle.tap_sound.proofs.NamesTimes.{each_there, effect_times, new_once}
 

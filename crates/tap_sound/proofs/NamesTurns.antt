@@ -1,7 +1,6 @@
 -- Which accepted names a step of a transmit turn tells.
-use Rattle.std.proofs.Common.{◌≡◌, ◌⊎◌, ℕ, zero, suc, List, [], ◌∷◌, ◌++◌, Bool, true, false, Option, Some, None, inl, inr, refl, sym, ap, ◌∙◌, true≢false}
-use Rattle.std.specs.Prelude.{if◌then◌else◌, ◌==◌, nat_lt}
-use Rattle.guest_mem.specs.Memory.{Contents}
+use Rattle.std.proofs.Common.{◌≡◌, ℕ, List, [], ◌∷◌, ◌++◌, Bool, true, false, Option, Some, None, refl, ap, ◌∙◌, true≢false}
+use Rattle.std.specs.Prelude.{if◌then◌else◌, ◌==◌}
 use Rattle.tap_frame.specs.declared.name.Name.{Name}
 use Rattle.tap_frame.specs.declared.reading.BadFrame.{BadFrame}
 use Rattle.tap_frame.specs.Frame.{FrameValue}
@@ -14,7 +13,7 @@ use Rattle.vring_walk.specs.declared.walk.Fetched.TheVariants as fetched
 use Rattle.vring_turns.specs.declared.end.End.{End}
 use Rattle.vring_turns.specs.declared.stage.TxStage.{TxStage}
 use Rattle.vring_turns.specs.declared.stage.TxStage.TheVariants as tx
-use Rattle.vring_turns.specs.Ring.{Gathered, Made, Ring, done_in, fetches, first_position, found, publishes, told_of}
+use Rattle.vring_turns.specs.Ring.{Gathered, done_in, fetches, first_position, found, told_of}
 use Rattle.vring_turns.specs.TransmitBytes.{bytes_of_chain, refusal_of}
 use Rattle.vring_turns.specs.TxTurn as turn
 use Rattle.vring_turns.specs.TxTurn.{TxState}

@@ -164,7 +164,6 @@ look_first w d c next can other = go (look_from w d c next)
 -- ---- looks
 
 module _ (s : Setup) (w : World) (me seen : ℕ) (d : Doing) (c : Command) where
-
   approved : (x : Op) (o : Option TapErr) → d ≡ Begun → op_of s c ≡ Some x → w.writer ≡ None → refuse (table s w) x ≡ o
       → Shape s w me seen d c (tables.approved w me (tables.course (table s w) x) o)
   approved x None is of free no_ = Approves x is of free no_ refl
@@ -281,8 +280,6 @@ publish_row s w me seen d c = publishes s w me seen d c
 -- ---- frames
 
 module _ (s : Setup) (w : World) (me seen : ℕ) (c : Command) where
-
-
   claims : (n : ℕ) (d : Doing) → AllShaped s w me seen d c (ring.claims w me n seen d)
   claims n (Routed file epoch len) = where_then (Shape s w me seen (Routed file epoch len) c) (at w.files file) _ (λ f e1. Quiet refl tt refl refl refl (refl, refl, refl, refl, λ v h. tt))
   claims n d = tt

@@ -159,9 +159,6 @@ back_found t vhost ring (Some file) e = λ there.
 
 -- the table after what an event publishes
 module _ (s : Setup) (w : World) (x : Event) (u : World) (t : IsStep s w x u) where
-
-
-
   pub files_on : (o : OnFiles) → t.effect.files ≡ o → files_after o w.files ≡ Some t.between.files
   files_on o is = subst (λ (q : OnFiles). files_after q w.files ≡ Some t.between.files) is (effect_files t.effect x.actor t.actor x.command w t.between t.made)
 

@@ -411,23 +411,23 @@ between_held s w x u t can shape h =
     let vhosts = effect_vhosts t.effect x.actor t.actor x.command w t.between t.made in
     let each = turned_at w x.actor t.actor.doing t.now.command t.effect (turning s w x.actor t.actor.seen t.actor.doing t.now.command t.effect can shape) in (
       (λ vhost new at_ ring i b fits found.
-      let v = each vhost new (ap (λ (q : List (Option Vhost)). at q vhost) (sym vhosts) ∙ at_) in
-      let turned = v.2 ring fits in
-      let mine : (holds_turn t.actor.doing && about vhost ring t.now.command) ≡ is_at x.actor (turn_of ring v.0) =
-      sym (held_before vhost ring t.actor t.now t.current_is) ∙ h.0 vhost v.0 v.1 ring x.actor t.actor fits t.found in
-      ⊎_elim
-      (λ same. ap (held vhost ring) (sym same.1) ∙ held_after vhost ring t.actor t.now t.effect.onward t.current_is
-      ∙ held_on x.actor (turn_of ring v.0) (turn_of ring new) _ _ turned mine ∙ ap (λ (n : ℕ). is_at n (turn_of ring new)) same.0)
-      (λ other. h.0 vhost v.0 v.1 ring i b fits other.1 ∙ others_on x.actor (turn_of ring v.0) (turn_of ring new) _ _ turned mine i other.0)
-      (with_nth_inv x.actor (actor_after t.effect.onward t.actor) w.actors i b (ap (λ (q : List Actor). slice_get q i) (sym actors) ∙ found))),
+          let v = each vhost new (ap (λ (q : List (Option Vhost)). at q vhost) (sym vhosts) ∙ at_) in
+          let turned = v.2 ring fits in
+          let mine : (holds_turn t.actor.doing && about vhost ring t.now.command) ≡ is_at x.actor (turn_of ring v.0) =
+          sym (held_before vhost ring t.actor t.now t.current_is) ∙ h.0 vhost v.0 v.1 ring x.actor t.actor fits t.found in
+          ⊎_elim
+          (λ same. ap (held vhost ring) (sym same.1) ∙ held_after vhost ring t.actor t.now t.effect.onward t.current_is
+          ∙ held_on x.actor (turn_of ring v.0) (turn_of ring new) _ _ turned mine ∙ ap (λ (n : ℕ). is_at n (turn_of ring new)) same.0)
+          (λ other. h.0 vhost v.0 v.1 ring i b fits other.1 ∙ others_on x.actor (turn_of ring v.0) (turn_of ring new) _ _ turned mine i other.0)
+          (with_nth_inv x.actor (actor_after t.effect.onward t.actor) w.actors i b (ap (λ (q : List Actor). slice_get q i) (sym actors) ∙ found))),
       (λ vhost new at_.
-      let v = each vhost new (ap (λ (q : List (Option Vhost)). at q vhost) (sym vhosts) ∙ at_) in
-      let k = h.1 vhost v.0 v.1 in (
-        there_in t.between new.rx_turn (subst (λ (q : List Actor). IsThere q new.rx_turn) (sym actors)
-        (there_on x.actor (actor_after t.effect.onward t.actor) t.actor w.actors v.0.rx_turn new.rx_turn _ _ (v.2 0 (omega arith)) t.found (there w v.0.rx_turn k.0))),
-        there_in t.between new.tx_turn (subst (λ (q : List Actor). IsThere q new.tx_turn) (sym actors)
-        (there_on x.actor (actor_after t.effect.onward t.actor) t.actor w.actors v.0.tx_turn new.tx_turn _ _ (v.2 1 (omega arith)) t.found (there w v.0.tx_turn k.1))),
-      )),
+          let v = each vhost new (ap (λ (q : List (Option Vhost)). at q vhost) (sym vhosts) ∙ at_) in
+          let k = h.1 vhost v.0 v.1 in (
+            there_in t.between new.rx_turn (subst (λ (q : List Actor). IsThere q new.rx_turn) (sym actors)
+                (there_on x.actor (actor_after t.effect.onward t.actor) t.actor w.actors v.0.rx_turn new.rx_turn _ _ (v.2 0 (omega arith)) t.found (there w v.0.rx_turn k.0))),
+            there_in t.between new.tx_turn (subst (λ (q : List Actor). IsThere q new.tx_turn) (sym actors)
+                (there_on x.actor (actor_after t.effect.onward t.actor) t.actor w.actors v.0.tx_turn new.tx_turn _ _ (v.2 1 (omega arith)) t.found (there w v.0.tx_turn k.1))),
+          )),
     )
 
 pub turns_are_kept : (s : Setup) (w : World) (x : Event) (u : World) (t : IsStep s w x u) → can_be t.actor.doing t.now.command ≡ true
@@ -436,15 +436,15 @@ turns_are_kept s w x u t can shape h =
     let b = between_held s w x u t can shape h in
     subst TurnsHeld t.is (when_settled TurnsHeld t.between b (λ f end. (
       (λ vhost v at_ ring i a fits found. ⊎_elim
-      (λ same.
-      let before = b.0 vhost v at_ ring f.actor f.state fits end.found in
-      ap (held vhost ring) (sym same.1)
-      ∙ sym (ap (λ (d : Doing). holds_turn d && is_about vhost ring (current f.state.script)) end.doing) ∙ before ∙ ap (λ (n : ℕ). is_at n (turn_of ring v)) same.0)
-      (λ other. b.0 vhost v at_ ring i a fits other.1)
-      (with_nth_inv f.actor (record f.state { script = drop 1 f.state.script; doing = Begun }) t.between.actors i a found)),
+          (λ same.
+          let before = b.0 vhost v at_ ring f.actor f.state fits end.found in
+          ap (held vhost ring) (sym same.1)
+          ∙ sym (ap (λ (d : Doing). holds_turn d && is_about vhost ring (current f.state.script)) end.doing) ∙ before ∙ ap (λ (n : ℕ). is_at n (turn_of ring v)) same.0)
+          (λ other. b.0 vhost v at_ ring i a fits other.1)
+          (with_nth_inv f.actor (record f.state { script = drop 1 f.state.script; doing = Begun }) t.between.actors i a found)),
       (λ vhost v at_.
-      let k = b.1 vhost v at_ in (
-        there_in (ended f t.between) v.rx_turn (there_still f.actor (record f.state { script = drop 1 f.state.script; doing = Begun }) t.between.actors v.rx_turn (there t.between v.rx_turn k.0)),
-        there_in (ended f t.between) v.tx_turn (there_still f.actor (record f.state { script = drop 1 f.state.script; doing = Begun }) t.between.actors v.tx_turn (there t.between v.tx_turn k.1)),
-      )),
+          let k = b.1 vhost v at_ in (
+            there_in (ended f t.between) v.rx_turn (there_still f.actor (record f.state { script = drop 1 f.state.script; doing = Begun }) t.between.actors v.rx_turn (there t.between v.rx_turn k.0)),
+            there_in (ended f t.between) v.tx_turn (there_still f.actor (record f.state { script = drop 1 f.state.script; doing = Begun }) t.between.actors v.tx_turn (there t.between v.tx_turn k.1)),
+          )),
     )))

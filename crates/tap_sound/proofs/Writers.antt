@@ -193,13 +193,13 @@ between_held s w x u t can shape h =
     let turned = holding s w x.actor t.actor.seen t.actor.doing t.now.command t.effect can shape in
     let mine : holds t.actor.doing ≡ is_at x.actor w.writer = h.0 x.actor t.actor t.found in (
       (λ i b at_. ⊎_elim
-      (λ same. ap (λ (q : Actor). holds q.doing) (sym same.1) ∙ ap holds (is_doing_after t.effect.onward t.actor)
-      ∙ held_on x.actor w.writer t.effect.writer _ _ turned mine ∙ ap (λ (n : ℕ). is_at n t.effect.writer) same.0 ∙ ap (is_at i) (sym writer))
-      (λ other. h.0 i b other.1 ∙ others_on x.actor w.writer t.effect.writer _ _ turned mine i other.0 ∙ ap (is_at i) (sym writer))
-      (with_nth_inv x.actor (actor_after t.effect.onward t.actor) w.actors i b (ap (λ (q : List Actor). slice_get q i) (sym actors) ∙ at_))),
+          (λ same. ap (λ (q : Actor). holds q.doing) (sym same.1) ∙ ap holds (is_doing_after t.effect.onward t.actor)
+          ∙ held_on x.actor w.writer t.effect.writer _ _ turned mine ∙ ap (λ (n : ℕ). is_at n t.effect.writer) same.0 ∙ ap (is_at i) (sym writer))
+          (λ other. h.0 i b other.1 ∙ others_on x.actor w.writer t.effect.writer _ _ turned mine i other.0 ∙ ap (is_at i) (sym writer))
+          (with_nth_inv x.actor (actor_after t.effect.onward t.actor) w.actors i b (ap (λ (q : List Actor). slice_get q i) (sym actors) ∙ at_))),
       there_in t.between t.between.writer (subst (λ (q : List Actor). IsThere q t.between.writer) (sym actors)
-      (subst (IsThere (with_nth x.actor (actor_after t.effect.onward t.actor) w.actors)) (sym writer)
-      (there_on x.actor (actor_after t.effect.onward t.actor) t.actor w.actors w.writer t.effect.writer _ _ turned t.found (there w w.writer h.1)))),
+          (subst (IsThere (with_nth x.actor (actor_after t.effect.onward t.actor) w.actors)) (sym writer)
+          (there_on x.actor (actor_after t.effect.onward t.actor) t.actor w.actors w.writer t.effect.writer _ _ turned t.found (there w w.writer h.1)))),
     )
 
 pub writer_is_kept : (s : Setup) (w : World) (x : Event) (u : World) (t : IsStep s w x u) → can_be t.actor.doing t.now.command ≡ true
@@ -208,8 +208,8 @@ writer_is_kept s w x u t can shape h =
     let b = between_held s w x u t can shape h in
     subst Holders t.is (when_settled Holders t.between b (λ f end. (
       (λ i a at_. ⊎_elim
-      (λ same. ap (λ (q : Actor). holds q.doing) (sym same.1))
-      (λ other. b.0 i a other.1 ∙ ap (is_at i) end.writer ∙ others f.actor i other.0)
-      (with_nth_inv f.actor (record f.state { script = drop 1 f.state.script; doing = Begun }) t.between.actors i a at_)),
+          (λ same. ap (λ (q : Actor). holds q.doing) (sym same.1))
+          (λ other. b.0 i a other.1 ∙ ap (is_at i) end.writer ∙ others f.actor i other.0)
+          (with_nth_inv f.actor (record f.state { script = drop 1 f.state.script; doing = Begun }) t.between.actors i a at_)),
       tt,
     )))

@@ -4,5 +4,7 @@ pub mod Used
 pub mod Reached
 pub mod Held
 pub mod Names
+pub mod Room
+pub mod Hand
 pub mod Tabled
 pub mod Served

@@ -1,16 +1,19 @@
 //! What is true of every run of a scenario: laws, each a function that does nothing. The statements stand in `specs/`.
 //!
 //! `specs/Laws.antt` says that a run's events are the scripts of its commands, and that nothing is left undone;
-//! `specs/Kept.antt` what each event keeps of what is sound; `specs/Reached.antt` what therefore holds in every world of
-//! a run; `specs/Used.antt` what a trace tells of published chains. The proofs begin with `proofs/Kit.antt` and
-//! `proofs/Taken.antt`, which take a step apart.
+//! `specs/Kept.antt` what each event keeps of what is sound, and `specs/Names.antt`, `specs/Hand.antt` and
+//! `specs/Room.antt` what it keeps of names, of a frame in hand and of the room in a line; `specs/Reached.antt` what
+//! therefore holds in every world of a run; `specs/Used.antt` what a trace tells of published chains. The proofs begin
+//! with `proofs/Kit.antt` and `proofs/Taken.antt`, which take a step apart.
 #![tactic(auto)]
 
+ghost use Rattle.tap_sound.specs.Hand.{HandIsKept, HandIsOwnersInRuns};
 ghost use Rattle.tap_sound.specs.Held.{HoldersAreKept};
 ghost use Rattle.tap_sound.specs.Kept.{ClaimsAreKept, EpochsAreKept, LinesAreKept, RoomIsKept, ShutIsKept, StandsAreKept, VersionsAreKept};
 ghost use Rattle.tap_sound.specs.Laws.{AllIsDone, EventsAreScripts, EventsBeginScripts, OrderIsRun};
 ghost use Rattle.tap_sound.specs.Names.{NamesAreKept, NamesStandAfterRuns, NamesStandInRuns};
-ghost use Rattle.tap_sound.specs.Reached.{PhaseIsKept, RunIsKept};
+ghost use Rattle.tap_sound.specs.Reached.{PhaseIsKept, ReachedIsKept, RunIsKept};
+ghost use Rattle.tap_sound.specs.Room.{RoomIsAlwaysKept};
 ghost use Rattle.tap_sound.specs.Served.{RingsAreKept};
 ghost use Rattle.tap_sound.specs.Tabled.{TableIsKept};
 ghost use Rattle.tap_sound.specs.Used.{UsedIsCounted};
@@ -91,6 +94,7 @@ pub fn rings_are_kept()
 pub fn run_is_kept()
     ensures whole { RunIsKept }
     ensures phase { PhaseIsKept }
+    ensures reached { ReachedIsKept }
 {}
 
 /// Every event keeps that each name stands at most once, and that each accepted name stands but between the event that
@@ -99,4 +103,16 @@ pub fn names_stand_once()
     ensures kept { NamesAreKept }
     ensures reached { NamesStandInRuns }
     ensures ended { NamesStandAfterRuns }
+{}
+
+/// Every event keeps room in each line, also the two that change a capacity, where files have what the table says.
+pub fn room_is_always_kept()
+    ensures { RoomIsAlwaysKept }
+{}
+
+/// Every event keeps that a frame in hand is the batch's front and its owner's, whose receive turn is under way. So it
+/// is in each world that a run reaches.
+pub fn hand_is_owners()
+    ensures kept { HandIsKept }
+    ensures reached { HandIsOwnersInRuns }
 {}

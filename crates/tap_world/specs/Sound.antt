@@ -4,6 +4,8 @@ use Rattle.std.specs.Option.{option_map_or}
 use Rattle.std.specs.List.{AllByRecursion, list_any}
 use Rattle.tap_ledger.specs.declared.fate.Fate.TheVariants as fate
 use Rattle.tap_steer.specs.Table.{Table, file_at}
+use Rattle.vring_turns.specs.declared.stage.RxStage.{RxStage}
+use Rattle.vring_turns.specs.declared.stage.RxStage.TheVariants as rx
 use Rattle.tap_world.specs.ByNumber.{at}
 use Rattle.tap_world.specs.Guests.{Vhost}
 use Rattle.tap_world.specs.Setup.{Setup}
@@ -102,8 +104,16 @@ IsEmptyWhenShut w file f =
 
 -- ---- 7: a frame in hand
 
+-- a receive turn has a frame in hand: from the step that takes it until it is out or put back
+abbrev pub has_in_hand : RxStage → Bool
+has_in_hand rx.Begin = false
+has_in_hand rx.Hand = false
+has_in_hand (rx.Publish way) = false
+has_in_hand (rx.Ended way) = false
+has_in_hand stage = true
+
 abbrev pub is_receiving : ℕ → Doing → Bool
-is_receiving file (Receives other t) = other == file && is_some t.held
+is_receiving file (Receives other t) = other == file && has_in_hand t.stage
 is_receiving file doing = false
 
 -- an actor is at a worker's receive turn on the file, with a frame in hand

@@ -64,10 +64,11 @@ EndedStand w x = AllByRecursion (λ n. times w n ≡ 1) (accepted_in x.line.acto
 abbrev pub AcceptedStand : World → ℕ → Actor → Type 0
 AcceptedStand w actor a =
     (c : Numbered) → current a.script ≡ Some c
-    → AllByRecursion (λ n. (awaited actor c.number a.doing ≡ Some n) ⊎ (times w n ≡ 1)) (accepted_by actor c.number a.doing)
+    → AllByRecursion (λ n. (awaited actor c.number a.doing ≡ Some n) ⊎ (times w n ≡ 1))
+    (accepted_by actor c.number a.doing)
 
--- Each name stands at most once. An accepted name stands nowhere only in its own command, between the event that accepted
--- it and the event that drops, places or hosts it.
+-- Each name stands at most once. An accepted name stands nowhere only in its own command, between the event that
+-- accepted it and the event that drops, places or hosts it.
 pub record NamesStandOnce (w : World) : Type 0 where
   pub once : (n : Name) → times w n ≤ 1
   pub ended : AllByRecursion (EndedStand w) w.said
