@@ -54,3 +54,4 @@ mod Serving
 mod ServedOn
 mod RingEvents
 mod RingsKept
+mod Soundness

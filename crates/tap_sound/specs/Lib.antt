@@ -8,3 +8,4 @@ pub mod Room
 pub mod Hand
 pub mod Tabled
 pub mod Served
+pub mod Soundness

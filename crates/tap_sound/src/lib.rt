@@ -15,6 +15,7 @@ ghost use Rattle.tap_sound.specs.Names.{NamesAreKept, NamesStandAfterRuns, Names
 ghost use Rattle.tap_sound.specs.Reached.{PhaseIsKept, ReachedIsKept, RunIsKept};
 ghost use Rattle.tap_sound.specs.Room.{RoomIsAlwaysKept};
 ghost use Rattle.tap_sound.specs.Served.{RingsAreKept};
+ghost use Rattle.tap_sound.specs.Soundness.{SoundnessIsKept};
 ghost use Rattle.tap_sound.specs.Tabled.{TableIsKept};
 ghost use Rattle.tap_sound.specs.Used.{UsedIsCounted};
 
@@ -116,3 +117,11 @@ pub fn hand_is_owners()
     ensures kept { HandIsKept }
     ensures reached { HandIsOwnersInRuns }
 {}
+
+/// So each of these events keeps a sound world sound, in all ten parts.
+pub fn soundness_is_kept()
+    ensures { SoundnessIsKept }
+{
+    vring_turns::receive_standing();
+    vring_turns::transmit_standing();
+}
