@@ -1,13 +1,11 @@
 -- Every event keeps which files are backends of rings.
-use Rattle.std.proofs.Common.{◌≡◌, ◌⊎◌, ℕ, ◌+◌, List, [], ◌∷◌, ◌++◌, map, Bool, true, false, Option, Some, None, inl, inr, ⊎_elim, refl, sym, ap, ◌∙◌, subst, true≢false, ◌<◌, length}
-use Rattle.std.specs.Prelude.{if◌then◌else◌, ◌==◌, ◌||◌, is_none, is_some, not, option_map, drop, ◌&&◌}
+use Rattle.std.proofs.Common.{◌≡◌, ℕ, ◌+◌, List, [], ◌∷◌, Bool, true, false, Option, Some, None, inl, inr, refl, sym, ap, ◌∙◌, subst, true≢false, ◌<◌, length}
+use Rattle.std.specs.Prelude.{if◌then◌else◌, ◌==◌, is_none, is_some, not, ◌&&◌}
 use Rattle.guest_mem.specs.Memory.{Contents}
-use Rattle.tap_steer.specs.declared.error.TapErr.{TapErr}
 use Rattle.tap_steer.specs.declared.operation.Op.{Op}
-use Rattle.tap_steer.specs.declared.operation.TheConstants.{IFF_ATTACH_QUEUE}
-use Rattle.tap_steer.specs.Table.{Table, file_at, is_set}
-use Rattle.tap_steer.specs.Rules.{backer, refuse}
-use Rattle.tap_steer.specs.After.{after, after_all, back}
+use Rattle.tap_steer.specs.Table.{Table, file_at}
+use Rattle.tap_steer.specs.Rules.{backer}
+use Rattle.tap_steer.specs.After.{after_all}
 use Rattle.vhost_dev.specs.declared.error.VhostErr.{VhostErr}
 use Rattle.vhost_dev.specs.Refusals.{number_refusal, ready_refusal}
 use Rattle.vhost_dev.specs.Settings.{ring_at}
@@ -15,37 +13,31 @@ use Rattle.scen_words.specs.declared.command.Command.{Command}
 use Rattle.tap_trace.specs.declared.answer.Answer.{Answer}
 use Rattle.tap_trace.specs.declared.causes.TapText.{TapText}
 use Rattle.tap_world.specs.declared.event.Event.{Event}
-use Rattle.tap_world.specs.Causes.{tap_text}
-use Rattle.tap_world.specs.Setup.{Setup, op_of, opening_table}
+use Rattle.tap_world.specs.Setup.{Setup}
 use Rattle.tap_world.specs.Guests.{Vhost, is_ring, with_turn}
-use Rattle.tap_world.specs.World.{Actor, Doing, Published, World, newest, table}
+use Rattle.tap_world.specs.World.{Doing, World, newest, table}
 use Rattle.tap_world.specs.World.Doing.{Backed, Backs, Begun, Changes, Disowned, Opened, Opens, Owns, Purges, Released, Resizes, Shrinks, Unbacked, Withdrawn, Withdraws}
-use Rattle.tap_world.specs.Effect.{Effect, OnFiles, Onward, files_after, only, ended, OnVhosts, vhosts_after}
-use Rattle.tap_world.specs.Effect.OnFiles.{NoFile, OnFile}
-use Rattle.tap_world.specs.Effect.Onward.{Ends, Goes, Stays}
-use Rattle.tap_world.specs.LineSteps.Change.{Owned, Cuts, Reopens, Shuts, Sizes}
+use Rattle.tap_world.specs.Effect.{Effect, Onward, only, ended, OnVhosts, vhosts_after}
+use Rattle.tap_world.specs.Effect.Onward.{Goes}
 use Rattle.tap_world.specs.Sound.{EachActor, WriterIsHeld, holds}
 use Rattle.tap_world.specs.SoundActors.{can_be}
-use Rattle.tap_world.specs.SoundTable.{Agreed, IsAsFound, asked_by, commanded, expected, of_table, writing, backer_by, is_on, is_rx_side}
-use Rattle.tap_sound.proofs.Kit.{either, some_same, then_some}
-use Rattle.tap_sound.proofs.Agreeing.{Files, Fits, goes_on, reopening, shutting, sizing, steady}
-use Rattle.tap_sound.proofs.Kept.{effect_files, effect_ops}
-use Rattle.tap_sound.proofs.Publishing.{equal, publishing, sets_rx, sets_tx, unsets_rx, unsets_tx, withdrawing}
-use Rattle.tap_sound.proofs.Shapes.{Alike, IsLast, Shape}
+use Rattle.tap_world.specs.SoundTable.{IsAsFound, commanded, writing, backer_by, is_on, is_rx_side}
+use Rattle.tap_sound.proofs.Kit.{some_same}
+use Rattle.tap_sound.proofs.Shapes.{IsLast, Shape}
 use Rattle.tap_sound.proofs.Shapes.Shape.{Giving, Approves, BackApproves, BackDrives, BackPublishes, Calling, Learning, Owning, Publishing, Quiet, Reopening, RxTurning, Shutting, Sizing, Touching, Trims, TxTurning, Withdrawing}
 use Rattle.tap_sound.proofs.Standing.{answered, first_passed, ring_there}
-use Rattle.tap_sound.proofs.TableFiles.{back_finds, detach_finds, learn_same}
-use Rattle.tap_sound.proofs.Taken.{IsEnding, IsStep, both, when_settled}
+use Rattle.tap_sound.proofs.TableFiles.{learn_same}
+use Rattle.tap_sound.proofs.Taken.{IsStep, both, when_settled}
 use Rattle.tap_sound.proofs.Views.{Is, View, ending_view, view}
 use Rattle.tap_sound.proofs.Views.View.{Aside, Begins, Closes, Within}
 use Rattle.tap_sound.proofs.Writers.{course_is, doing_after, rx_free, rx_holds, tx_free, tx_holds, unset_refusal, last_holds}
 use Rattle.tap_world.specs.Line.{claimed}
-use Rattle.tap_sound.proofs.TableKept.{FitsWorld, alike_view, aside, asked_is, at_view, back_found, back_publishes, begins, closes, course_found, doing_on, drives, files_on, goes_last, goes_within, on_files, ops_on, owns, passes, passes_still, steady_here, into, onto, table_on, within}
+use Rattle.tap_sound.proofs.TableKept.{FitsWorld, alike_view, aside, at_view, begins, closes, doing_on, goes_last, goes_within, ops_on, into, table_on, within}
 use Rattle.std.specs.Option.{option_map_or}
 use Rattle.tap_ledger.specs.declared.side.Side.{Side}
 use Rattle.tap_ledger.specs.declared.side.Side.TheVariants.{Rx, Tx}
 use Rattle.vhost_dev.specs.Calls.{without_backend}
-use Rattle.tap_world.specs.ByNumber.{at, with_at}
+use Rattle.tap_world.specs.ByNumber.{at}
 use Rattle.tap_world.specs.Effect.OnVhosts.{NoVhost, OnVhost}
 use Rattle.tap_sound.proofs.Backers.{FromOld, HaveBackends, SameFiles, Vhosts, back_backs, call_files, files_backers, no_vhost, one_vhost, op_backs, queue_files, same_backs, set_backs, turn_files, unset_backs}
 use Rattle.tap_sound.proofs.Calls.{called_is}
@@ -56,7 +48,6 @@ use Rattle.scen_words.specs.declared.command.Command.TheVariants as command
 use Rattle.tap_world.specs.declared.event.Found.TheVariants as found
 use Rattle.tap_world.specs.StepBackend as back_steps
 use Rattle.tap_world.specs.StepTable as tables
-use Rattle.tap_sound.proofs.Shapes as shapes
 use Rattle.tap_world.specs.StepTurns as rx_turns
 use Rattle.tap_world.specs.StepTransmits as tx_turns
 

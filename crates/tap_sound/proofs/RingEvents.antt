@@ -1,65 +1,50 @@
 -- The events that leave rings, shape by shape.
-use Rattle.std.proofs.Common.{◌≡◌, ◌≢◌, ◌⊎◌, ℕ, zero, suc, ◌+◌, ◌<◌, List, [], ◌∷◌, Bool, true, false, Option, Some, None, inl, inr, ⊎_elim, refl, sym, ap, ◌∙◌, subst, true≢false, arith}
-use Rattle.std.specs.Prelude.{if◌then◌else◌, ◌==◌, ◌&&◌, is_none, is_some, slice_get}
-use Rattle.std.specs.Option.{option_map_or}
+use Rattle.std.proofs.Common.{◌≡◌, ◌≢◌, ◌⊎◌, ℕ, zero, suc, List, [], ◌∷◌, Bool, true, false, Option, Some, None, inl, inr, ⊎_elim, refl, sym, ap, ◌∙◌, subst, true≢false, arith}
+use Rattle.std.specs.Prelude.{if◌then◌else◌, ◌==◌, is_none, is_some}
 use Rattle.std.proofs.lemmas.Bool.Decides.{eqb_tells}
 use Rattle.guest_mem.specs.Memory.{Contents}
-use Rattle.guest_mem.specs.declared.region.Region.{Region}
 use Rattle.vhost_queue.specs.Positions.{IsIdle}
 use Rattle.vhost_queue.specs.Queue.{Queue}
-use Rattle.vhost_dev.specs.Settings.{Settings, hdr_of, ring_at}
+use Rattle.vhost_dev.specs.Settings.{ring_at}
 use Rattle.vring_turns.specs.declared.end.End.{End}
 use Rattle.vring_turns.specs.declared.stage.RxStage.{RxStage}
 use Rattle.vring_turns.specs.declared.stage.RxStage.TheVariants as rx
 use Rattle.vring_turns.specs.declared.stage.TxStage.{TxStage}
 use Rattle.vring_turns.specs.declared.stage.TxStage.TheVariants as tx
-use Rattle.vring_turns.specs.RxTurn.{RxState, RxTurn, rx_begun, rx_step}
-use Rattle.vring_turns.specs.TxTurn.{TxState, TxTurn, tx_begun, tx_step}
+use Rattle.vring_turns.specs.RxTurn.{RxTurn}
+use Rattle.vring_turns.specs.TxTurn.{TxTurn}
 use Rattle.vring_turns.specs.Standing.{RxStands, TxStands}
-use Rattle.tap_ledger.specs.declared.act.Act.{Act}
-use Rattle.tap_ledger.specs.declared.hand.Hand.{Hand}
 use Rattle.scen_words.specs.declared.command.Command.{Command}
 use Rattle.scen_words.specs.declared.command.Command.TheVariants as command
-use Rattle.tap_frame.specs.declared.name.Name.{Name}
 use Rattle.tap_trace.specs.declared.turn.ChainText.{ChainText}
 use Rattle.tap_trace.specs.declared.kind.Kind.{Kind}
-use Rattle.tap_world.specs.declared.event.Event.{Event}
 use Rattle.tap_world.specs.declared.event.EventKind.{EventKind}
 use Rattle.tap_world.specs.declared.event.EventKind.TheVariants as event
 use Rattle.tap_world.specs.declared.event.Found.{Found}
 use Rattle.tap_world.specs.ByNumber.{at, with_at}
-use Rattle.tap_world.specs.Guests.{Guest, Vhost, is_free, is_ring, turn_of, with_queue, with_turn}
-use Rattle.tap_world.specs.Line.{File}
-use Rattle.tap_world.specs.Setup.{Numbered, Setup}
-use Rattle.tap_world.specs.World.{Actor, Doing, World, current, table}
-use Rattle.tap_world.specs.World.Doing.{Backed, Backs, Begun, Changes, Disowned, Given, Opened, Owns, Receives, Released, Shrinks, Transmits, Unbacked}
-use Rattle.tap_world.specs.Effect.{Effect, OnGuests, OnVhosts, Onward, files_after, guests_after, vhosts_after, with_effect}
+use Rattle.tap_world.specs.Guests.{Guest, Vhost, is_free, turn_of, with_queue, with_turn}
+use Rattle.tap_world.specs.World.{Actor, Doing, World}
+use Rattle.tap_world.specs.World.Doing.{Backed, Changes, Disowned, Opened, Owns, Released, Shrinks, Unbacked}
+use Rattle.tap_world.specs.Effect.{Effect, Onward, files_after, guests_after, with_effect}
 use Rattle.tap_world.specs.Effect.OnGuests.{NoGuest, OnGuest}
-use Rattle.tap_world.specs.Effect.OnVhosts.{NoVhost, OnVhost}
 use Rattle.tap_world.specs.Effect.Onward.{Ends, Goes, Stays}
-use Rattle.tap_world.specs.Scripts.{first_kind, hand_next, is_kind, next_kind, rx_next_kind, tx_next_kind}
+use Rattle.tap_world.specs.Scripts.{first_kind, is_kind, rx_next_kind, tx_next_kind}
 use Rattle.tap_world.specs.StepBackend as back_steps
 use Rattle.tap_world.specs.StepControl as control
-use Rattle.tap_world.specs.StepTable as tables
 use Rattle.tap_world.specs.StepTurns as rx_turns
 use Rattle.tap_world.specs.StepTransmits as tx_turns
-use Rattle.tap_world.specs.Sound.{EachVhost}
-use Rattle.tap_world.specs.SoundActors.{can_be}
-use Rattle.tap_world.specs.SoundRings.{HasRings, IsServed, Serves, StandsWith, TurnsAreHeld, holds_turn, is_about, serves}
+use Rattle.tap_world.specs.SoundRings.{holds_turn, serves}
 use Rattle.tap_sound.specs.Served.{leaves_rings}
-use Rattle.tap_sound.proofs.Kit.{either, some_same, then_some, where_some}
+use Rattle.tap_sound.proofs.Kit.{either, some_same, then_some}
 use Rattle.tap_sound.proofs.Claims.{with_at_inv}
-use Rattle.tap_sound.proofs.Follows.{at_file_kind, same_kind}
-use Rattle.tap_sound.proofs.RingSteps.{RxLeaves, TxLeaves, rx_changes, rx_leaves, tx_changes, tx_leaves}
+use Rattle.tap_sound.proofs.Follows.{same_kind}
+use Rattle.tap_sound.proofs.RingSteps.{rx_changes, tx_changes}
 use Rattle.tap_sound.proofs.ServedOn.{Course, OldGuests, OldRings, SameRings}
 use Rattle.tap_sound.proofs.ServedOn.Course.{Free, On, Over, Starts}
-use Rattle.tap_sound.proofs.Serving.{TurnLaws, hdr_more, rx_idle, rx_stands_on, serves_holds, tx_idle, tx_stands_on, unserved}
-use Rattle.tap_sound.proofs.Shapes.{Alike, Gives, IsLast, RxWay, Shape, TxWay}
-use Rattle.tap_sound.proofs.Shapes.Shape.{Approves, BackApproves, BackDrives, BackPublishes, Calling, Giving, Learning, Owning, Publishing, Quiet, Reopening, RxTurning, Shutting, Sizing, Touching, Trims, TxTurning, Withdrawing}
-use Rattle.tap_sound.proofs.Taken.{IsStep, both}
-use Rattle.tap_sound.proofs.Turned.{itself}
-use Rattle.tap_sound.proofs.Turns.{about, effect_vhosts}
-use Rattle.tap_sound.proofs.Writers.{course_is, doing_after}
+use Rattle.tap_sound.proofs.Serving.{rx_idle, serves_holds, tx_idle}
+use Rattle.tap_sound.proofs.Shapes.{Alike, IsLast}
+use Rattle.tap_sound.proofs.Taken.{both}
+use Rattle.tap_sound.proofs.Turns.{about}
 
 -- ---- small things
 

@@ -1,10 +1,9 @@
 -- Steps of turns that leave the queue of their ring.
-use Rattle.std.proofs.Common.{◌≡◌, ℕ, Bool, true, false, Option, Some, None, refl, sym, ap, ◌∙◌, subst, true≢false}
+use Rattle.std.proofs.Common.{◌≡◌, ℕ, Bool, true, false, Option, Some, None, refl, ap, ◌∙◌, true≢false}
 use Rattle.std.specs.Prelude.{if◌then◌else◌, nat_lt}
 use Rattle.guest_mem.specs.Memory.{Contents}
 use Rattle.vring_split.specs.declared.layout.Layout.{Layout}
-use Rattle.vhost_queue.specs.Publication.{noticed_at, noticed_in, with_field}
-use Rattle.vhost_queue.specs.Queue.{Queue}
+use Rattle.vhost_queue.specs.Publication.{noticed_at, with_field}
 use Rattle.tap_frame.specs.Frame.{FrameValue}
 use Rattle.tap_ledger.specs.declared.act.Act.{Act}
 use Rattle.tap_ledger.specs.declared.hand.Hand.{Hand}

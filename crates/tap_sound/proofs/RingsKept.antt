@@ -1,67 +1,50 @@
 -- The events that leave rings keep them in order, and served as before.
-use Rattle.std.proofs.Common.{◌≡◌, ◌≢◌, ◌⊎◌, ℕ, zero, suc, ◌+◌, ◌<◌, List, [], ◌∷◌, Bool, true, false, Option, Some, None, inl, inr, ⊎_elim, refl, sym, ap, ◌∙◌, subst, true≢false, arith}
-use Rattle.std.specs.Prelude.{if◌then◌else◌, ◌==◌, ◌&&◌, is_none, is_some, slice_get}
+use Rattle.std.proofs.Common.{◌≡◌, ◌⊎◌, ℕ, ◌+◌, List, [], ◌∷◌, Bool, true, false, Option, Some, None, inl, inr, refl, sym, ap, ◌∙◌, subst, arith}
+use Rattle.std.specs.Prelude.{if◌then◌else◌, ◌==◌, ◌&&◌, is_some}
 use Rattle.std.specs.Option.{option_map_or}
-use Rattle.std.proofs.lemmas.Bool.Decides.{eqb_tells}
 use Rattle.guest_mem.specs.Memory.{Contents}
-use Rattle.guest_mem.specs.declared.region.Region.{Region}
-use Rattle.vhost_queue.specs.Positions.{IsIdle}
-use Rattle.vhost_queue.specs.Queue.{Queue}
-use Rattle.vhost_dev.specs.Settings.{Settings, hdr_of, ring_at}
-use Rattle.vring_turns.specs.declared.end.End.{End}
-use Rattle.vring_turns.specs.declared.stage.RxStage.{RxStage}
-use Rattle.vring_turns.specs.declared.stage.TxStage.{TxStage}
-use Rattle.vring_turns.specs.RxTurn.{RxState, RxTurn, rx_begun, rx_step}
-use Rattle.vring_turns.specs.TxTurn.{TxState, TxTurn, tx_begun, tx_step}
+use Rattle.vhost_dev.specs.Settings.{hdr_of}
+use Rattle.vring_turns.specs.RxTurn.{RxTurn}
+use Rattle.vring_turns.specs.TxTurn.{TxTurn}
 use Rattle.vring_turns.specs.Standing.{RxStands, TxStands}
-use Rattle.tap_ledger.specs.declared.act.Act.{Act}
-use Rattle.tap_ledger.specs.declared.hand.Hand.{Hand}
 use Rattle.scen_words.specs.declared.command.Command.{Command}
-use Rattle.tap_frame.specs.declared.name.Name.{Name}
 use Rattle.tap_trace.specs.declared.turn.ChainText.{ChainText}
 use Rattle.tap_trace.specs.declared.kind.Kind.{Kind}
 use Rattle.tap_world.specs.declared.event.Event.{Event}
 use Rattle.tap_world.specs.declared.event.EventKind.{EventKind}
 use Rattle.tap_world.specs.declared.event.Found.{Found}
-use Rattle.tap_world.specs.ByNumber.{at, with_at}
-use Rattle.tap_world.specs.Guests.{Guest, Vhost, is_free, is_ring, turn_of, with_queue, with_turn}
-use Rattle.tap_world.specs.Line.{File}
-use Rattle.tap_world.specs.Setup.{Numbered, Setup}
-use Rattle.tap_world.specs.World.{Actor, Doing, World, current, table, newest}
-use Rattle.tap_world.specs.World.Doing.{Backed, Backs, Begun, Changes, Disowned, Given, Opened, Owns, Receives, Released, Shrinks, Transmits, Unbacked}
-use Rattle.tap_world.specs.Effect.{Effect, OnGuests, OnVhosts, Onward, files_after, guests_after, vhosts_after, with_effect, ended, only}
+use Rattle.tap_world.specs.ByNumber.{at}
+use Rattle.tap_world.specs.Guests.{Guest, Vhost, is_ring, with_turn}
+use Rattle.tap_world.specs.Setup.{Setup}
+use Rattle.tap_world.specs.World.{Doing, World, table, newest}
+use Rattle.tap_world.specs.World.Doing.{Backed, Disowned, Owns, Released, Unbacked}
+use Rattle.tap_world.specs.Effect.{Effect, OnGuests, OnVhosts, Onward, guests_after, vhosts_after, only}
 use Rattle.tap_world.specs.Effect.OnGuests.{NoGuest, OnGuest}
 use Rattle.tap_world.specs.Effect.OnVhosts.{NoVhost, OnVhost}
-use Rattle.tap_world.specs.Effect.Onward.{Ends, Goes, Stays}
-use Rattle.tap_world.specs.Scripts.{first_kind, hand_next, is_kind, next_kind, rx_next_kind, tx_next_kind}
+use Rattle.tap_world.specs.Effect.Onward.{Goes}
+use Rattle.tap_world.specs.Scripts.{is_kind, next_kind}
 use Rattle.tap_world.specs.Sound.{EachVhost, EachActor}
-use Rattle.tap_world.specs.SoundActors.{can_be, CanBe}
-use Rattle.tap_world.specs.SoundRings.{HasRings, IsServed, Serves, StandsWith, TurnsAreHeld, holds_turn, is_about, serves}
+use Rattle.tap_world.specs.SoundActors.{CanBe}
+use Rattle.tap_world.specs.SoundRings.{IsServed, Serves, StandsWith, TurnsAreHeld, is_about, serves}
 use Rattle.tap_sound.specs.Served.{leaves_rings, HaveRings}
-use Rattle.tap_sound.proofs.Kit.{either, some_same, then_some, where_some}
-use Rattle.tap_sound.proofs.Claims.{with_at_inv}
-use Rattle.tap_sound.proofs.Follows.{at_file_kind, same_kind}
+use Rattle.tap_sound.proofs.Kit.{some_same, where_some}
 use Rattle.tap_sound.proofs.RingSteps.{RxLeaves, TxLeaves, rx_changes, rx_leaves, tx_changes, tx_leaves}
 use Rattle.tap_sound.proofs.ServedOn.{Course, OldGuests, OldRings, SameRings, rings_on, served_between, served_ended}
-use Rattle.tap_sound.proofs.ServedOn.Course.{Free, On, Over, Starts}
-use Rattle.tap_sound.proofs.Serving.{TurnLaws, hdr_more, rx_idle, rx_stands_on, serves_holds, tx_idle, tx_stands_on, unserved}
-use Rattle.tap_sound.proofs.Shapes.{Alike, Gives, IsLast, RxWay, Shape, TxWay}
+use Rattle.tap_sound.proofs.ServedOn.Course.{Free, On}
+use Rattle.tap_sound.proofs.Serving.{TurnLaws, hdr_more, rx_stands_on, tx_stands_on, unserved}
+use Rattle.tap_sound.proofs.Shapes.{Gives, RxWay, Shape, TxWay}
 use Rattle.tap_sound.proofs.Shapes.Shape.{Approves, BackApproves, BackDrives, BackPublishes, Calling, Giving, Learning, Owning, Publishing, Quiet, Reopening, RxTurning, Shutting, Sizing, Touching, Trims, TxTurning, Withdrawing}
-use Rattle.tap_sound.proofs.Taken.{IsStep, both, step_is, when_settled}
+use Rattle.tap_sound.proofs.Taken.{IsStep, step_is, when_settled}
 use Rattle.tap_sound.proofs.Turned.{itself}
 use Rattle.tap_sound.proofs.Turns.{about, effect_vhosts}
-use Rattle.tap_sound.proofs.Writers.{course_is, doing_after}
+use Rattle.tap_sound.proofs.Writers.{course_is}
 use Rattle.tap_world.specs.declared.event.Heard.{Heard}
 use Rattle.tap_world.specs.Step.{step}
-use Rattle.tap_sound.proofs.Held.{can_here, shape_here}
+use Rattle.tap_sound.proofs.Held.{shape_here}
 use Rattle.tap_sound.proofs.RingEvents.{alike_course, back_course, call_drives, effect_guests, last_serves, no_change, no_guests, none_rings, one_guest, one_rings, own_course, rx_course, rx_rings, rx_stays, this_one, turn_rings, tx_course, tx_only, tx_rings, tx_stays, free_none}
-use Rattle.vring_turns.specs.declared.stage.RxStage.TheVariants as rx
-use Rattle.vring_turns.specs.declared.stage.TxStage.TheVariants as tx
 use Rattle.scen_words.specs.declared.command.Command.TheVariants as command
 use Rattle.tap_world.specs.declared.event.EventKind.TheVariants as event
 use Rattle.tap_world.specs.StepBackend as back_steps
-use Rattle.tap_world.specs.StepControl as control
-use Rattle.tap_world.specs.StepTable as tables
 use Rattle.tap_world.specs.StepTurns as rx_turns
 use Rattle.tap_world.specs.StepTransmits as tx_turns
 use Rattle.tap_steer.specs.declared.operation.Op.TheVariants as op
@@ -74,7 +57,6 @@ record Left (s : Setup) (w : World) (x : Event) (u : World) (t : IsStep s w x u)
   pub guests : OldGuests w t.between.guests
 
 module _ (s : Setup) (w : World) (x : Event) (u : World) (t : IsStep s w x u) where
-
   vhosts_on : (o : OnVhosts) → t.effect.vhosts ≡ o → t.between.vhosts ≡ vhosts_after o w.vhosts
   vhosts_on o is = effect_vhosts t.effect x.actor t.actor x.command w t.between t.made ∙ ap (λ (q : OnVhosts). vhosts_after q w.vhosts) is
 
@@ -152,7 +134,6 @@ module _ (s : Setup) (w : World) (x : Event) (u : World) (t : IsStep s w x u) wh
       (tx_leaves (tx_turns.tx_state q k.v k.g.memory) (ap tx_changes k.stage)) k.step in
       subst (λ (z : Vhost). TxStands k.made.0.turn z.settings.tx.queue) it
       (subst (TxStands k.made.0.turn) leaves.0 (tx_stands_on laws q k.v k.g.memory k.made k.step stands))))
-
 
 -- the stage of a turn that this event doesn't change
 rx_stage : (s : Setup) (w : World) (x : Event) (u : World) (t : IsStep s w x u) → leaves_rings x.kind ≡ true → (file : ℕ) (q : RxTurn) (v : Vhost) → RxWay x.actor t.actor.doing file q v

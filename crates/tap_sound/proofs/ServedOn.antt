@@ -1,21 +1,21 @@
 -- Rings that an event leaves are in order and served as before.
-use Rattle.std.proofs.Common.{◌≡◌, ◌≢◌, ◌⊎◌, ℕ, ◌+◌, ◌<◌, List, [], ◌∷◌, Bool, true, false, Option, Some, None, inl, inr, ⊎_elim, refl, sym, ap, ◌∙◌, subst, true≢false}
-use Rattle.std.specs.Prelude.{if◌then◌else◌, ◌==◌, ◌&&◌, drop, is_some, slice_get}
+use Rattle.std.proofs.Common.{◌≡◌, ◌≢◌, ◌⊎◌, ℕ, ◌<◌, List, Bool, true, false, Option, Some, ⊎_elim, refl, sym, ap, ◌∙◌, subst, true≢false}
+use Rattle.std.specs.Prelude.{if◌then◌else◌, ◌==◌, drop, is_some, slice_get}
 use Rattle.std.proofs.lemmas.Bool.Decides.{eqb_tells}
-use Rattle.guest_mem.specs.Memory.{Contents, covers}
+use Rattle.guest_mem.specs.Memory.{covers}
 use Rattle.guest_mem.specs.declared.region.Region.{Region}
 use Rattle.vring_split.specs.Good.{IsGoodFor}
 use Rattle.vhost_queue.specs.Positions.{IsIdle}
-use Rattle.vhost_dev.specs.Settings.{RingSettings, Settings, ring_at}
+use Rattle.vhost_dev.specs.Settings.{RingSettings, ring_at}
 use Rattle.vring_turns.specs.Standing.{RxStands, TxStands}
 use Rattle.scen_words.specs.declared.command.Command.{Command}
 use Rattle.tap_world.specs.declared.event.Event.{Event}
-use Rattle.tap_world.specs.ByNumber.{at, with_nth}
+use Rattle.tap_world.specs.ByNumber.{at}
 use Rattle.tap_world.specs.Guests.{Guest, Vhost}
 use Rattle.tap_world.specs.Setup.{Numbered, Setup}
 use Rattle.tap_world.specs.World.{Actor, Doing, World, current}
 use Rattle.tap_world.specs.World.Doing.{Begun, Given, Receives, Teaches, Transmits}
-use Rattle.tap_world.specs.Effect.{Effect, Ending, Onward, actor_after, ended, vhosts_after}
+use Rattle.tap_world.specs.Effect.{Ending, Onward, actor_after, ended}
 use Rattle.tap_world.specs.Effect.Onward.{Ends, Goes, Stays}
 use Rattle.tap_world.specs.Sound.{EachVhost}
 use Rattle.tap_world.specs.SoundRings.{HasRings, IsRing, IsServed, Serves, StandsWith, is_about, serves}
@@ -23,7 +23,7 @@ use Rattle.tap_sound.proofs.Kit.{some_same}
 use Rattle.tap_sound.proofs.Scripts.{effect_actors}
 use Rattle.tap_sound.proofs.Taken.{IsEnding, IsStep}
 use Rattle.tap_sound.proofs.Turned.{with_nth_inv}
-use Rattle.tap_sound.proofs.Turns.{about, effect_vhosts}
+use Rattle.tap_sound.proofs.Turns.{about}
 use Rattle.tap_sound.proofs.Views.{acted, other_still}
 use Rattle.tap_sound.proofs.Writers.{doing_after, is_doing_after}
 
@@ -101,7 +101,6 @@ serves_after : (o : Onward) (a : Actor) → serves (actor_after o a).doing ≡ s
 serves_after o a = ap serves (is_doing_after o a)
 
 module _ (s : Setup) (w : World) (x : Event) (u : World) (t : IsStep s w x u) where
-
   abbrev A : Actor
   A = actor_after t.effect.onward t.actor
 
@@ -151,9 +150,10 @@ module _ (s : Setup) (w : World) (x : Event) (u : World) (t : IsStep s w x u) wh
       idle_of : C → (v : Vhost) → at w.vhosts vhost ≡ Some v → IsServed w vhost v → (ring : ℕ) → ring < 2 → Nobody t.between vhost ring → IsIdle (ring_at ring v.settings).queue.positions
       idle_of (Free a b) v found h ring below none = h.idle ring below (nobody vhost ring (λ sv. true≢false (sym sv.0 ∙ a)) none)
       idle_of (On same on stands) v found h ring below none = h.idle ring below (nobody vhost ring
-          (λ sv. none x.actor A (acted s w x u t)
-          (serves_after t.effect.onward t.actor ∙ same ∙ sv.0,
-          after_about vhost ring t.actor t.now t.effect.onward on t.current_is ∙ sym (before_about vhost ring t.actor t.now t.current_is) ∙ sv.1)) none)
+          (λ sv. none x.actor A (acted s w x u t) (
+            serves_after t.effect.onward t.actor ∙ same ∙ sv.0,
+            after_about vhost ring t.actor t.now t.effect.onward on t.current_is ∙ sym (before_about vhost ring t.actor t.now t.current_is) ∙ sv.1,
+          )) none)
       idle_of (Starts a on stands) v found h ring below none = h.idle ring below (nobody vhost ring (λ sv. true≢false (sym sv.0 ∙ a)) none)
       idle_of (Over b over) v found h ring below none = go (about vhost ring t.now.command) refl
         where

@@ -1,45 +1,32 @@
 -- Rings and the turns that serve them, after the events that leave rings.
-use Rattle.std.proofs.Common.{◌≡◌, ◌≢◌, ◌⊎◌, ℕ, zero, suc, ◌+◌, ◌<◌, List, [], ◌∷◌, length, Bool, true, false, Option, Some, None, inl, inr, ⊎_elim, refl, sym, ap, ◌∙◌, subst, true≢false, arith}
-use Rattle.std.specs.Prelude.{if◌then◌else◌, ◌==◌, ◌&&◌, ◌||◌, is_none, is_some, slice_get}
-use Rattle.std.specs.Option.{option_map_or}
+use Rattle.std.proofs.Common.{◌≡◌, ℕ, ◌<◌, List, [], ◌∷◌, length, Bool, true, false, Some, None, ⊎_elim, refl, sym, ap, ◌∙◌, subst, true≢false, arith}
+use Rattle.std.specs.Prelude.{if◌then◌else◌, ◌==◌, ◌&&◌, ◌||◌, slice_get}
 use Rattle.std.proofs.lemmas.Bool.Decides.{eqb_tells}
 use Rattle.guest_mem.specs.Memory.{Contents}
 use Rattle.vhost_queue.specs.Positions.{IsIdle}
 use Rattle.vhost_queue.specs.Queue.{Queue}
-use Rattle.vhost_dev.specs.Settings.{RingSettings, Settings, hdr_of, ring_at}
+use Rattle.vhost_dev.specs.Settings.{Settings, hdr_of}
 use Rattle.vring_turns.specs.declared.end.End.{End}
 use Rattle.vring_turns.specs.declared.stage.RxStage.{RxStage}
 use Rattle.vring_turns.specs.declared.stage.RxStage.TheVariants as rx
 use Rattle.vring_turns.specs.declared.stage.TxStage.{TxStage}
 use Rattle.vring_turns.specs.declared.stage.TxStage.TheVariants as tx
-use Rattle.vring_turns.specs.RxTurn.{RxState, RxTurn, rx_begun, rx_step}
-use Rattle.vring_turns.specs.TxTurn.{TxState, TxTurn, tx_begun, tx_step}
+use Rattle.vring_turns.specs.RxTurn.{RxState, RxTurn, rx_step}
+use Rattle.vring_turns.specs.TxTurn.{TxState, TxTurn, tx_step}
 use Rattle.vring_turns.specs.Standing.{ReceiveTurnsBegin, ReceiveTurnsStand, RxStands, RxStandsAt, TransmitTurnsBegin, TransmitTurnsStand, TxStands, TxStandsAt}
 use Rattle.tap_ledger.specs.declared.act.Act.{Act}
 use Rattle.tap_ledger.specs.declared.hand.Hand.{Hand}
-use Rattle.tap_frame.specs.declared.name.Name.{Name}
-use Rattle.tap_trace.specs.declared.turn.ChainText.{ChainText}
 use Rattle.scen_words.specs.declared.command.Command.{Command}
 use Rattle.scen_words.specs.declared.command.Command.TheVariants as command
-use Rattle.tap_world.specs.declared.event.Found.{Found}
-use Rattle.tap_world.specs.ByNumber.{at}
-use Rattle.tap_world.specs.Guests.{Vhost, is_free, turn_of, with_queue, with_turn}
-use Rattle.tap_world.specs.Setup.{Numbered}
+use Rattle.tap_world.specs.Guests.{Vhost, turn_of}
 use Rattle.tap_world.specs.World.{Actor, Doing, World, current}
-use Rattle.tap_world.specs.World.Doing.{Begun, Given, Receives, Teaches, Transmits}
-use Rattle.tap_world.specs.Effect.{Onward, actor_after}
-use Rattle.tap_world.specs.Effect.Onward.{Ends, Goes, Stays}
+use Rattle.tap_world.specs.World.Doing.{Given, Receives, Teaches, Transmits}
 use Rattle.tap_world.specs.StepTurns as rx_turns
 use Rattle.tap_world.specs.StepTransmits as tx_turns
-use Rattle.tap_world.specs.Sound.{EachVhost}
-use Rattle.tap_world.specs.SoundActors.{CanBe, can_be}
-use Rattle.tap_world.specs.SoundRings.{IsServed, Serves, StandsWith, TurnsAreHeld, holds_turn, is_about, ring_in, serves}
-use Rattle.tap_sound.proofs.Kit.{some_same}
-use Rattle.tap_sound.proofs.Shapes.{RxWay, TxWay}
-use Rattle.tap_sound.proofs.Stand.{stands_at}
-use Rattle.tap_sound.proofs.Turned.{is_at, itself}
+use Rattle.tap_world.specs.SoundActors.{can_be}
+use Rattle.tap_world.specs.SoundRings.{Serves, TurnsAreHeld, holds_turn, is_about, serves}
+use Rattle.tap_sound.proofs.Turned.{is_at}
 use Rattle.tap_sound.proofs.Turns.{about, held}
-use Rattle.tap_sound.proofs.Writers.{doing_after}
 
 -- the laws of turns
 pub record TurnLaws : Type 0 where

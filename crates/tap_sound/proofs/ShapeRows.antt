@@ -1,5 +1,5 @@
 -- What an event changes has one of few shapes: all rows.
-use Rattle.std.proofs.Common.{◌≡◌, ℕ, ◌+◌, List, [], ◌∷◌, Bool, true, false, Option, Some, None, refl, ◌⊎◌, inl, inr, sym, ap, ◌∙◌, subst, true≢false}
+use Rattle.std.proofs.Common.{◌≡◌, ℕ, ◌+◌, List, [], ◌∷◌, Bool, true, false, Option, Some, None, refl, ◌⊎◌, inl, inr, sym, ap, ◌∙◌, true≢false}
 use Rattle.std.specs.Prelude.{if◌then◌else◌, ◌==◌, ◌&&◌, ◌||◌, is_none, is_some, nat_lt, slice_get, not}
 use Rattle.std.specs.Option.{option_map_or}
 use Rattle.guest_mem.specs.Memory.{Contents}
@@ -7,48 +7,40 @@ use Rattle.tap_frame.specs.declared.name.Name.{Name}
 use Rattle.tap_ledger.specs.declared.fate.Cause.{Cause}
 use Rattle.tap_steer.specs.declared.operation.Op.{Op}
 use Rattle.tap_steer.specs.Select.{learns}
-use Rattle.vhost_dev.specs.declared.error.VhostErr.{VhostErr}
 use Rattle.vring_turns.specs.declared.stage.RxStage.{RxStage}
 use Rattle.vring_turns.specs.RxTurn.{RxTurn, rx_step, rx_begun}
 use Rattle.vring_turns.specs.TxTurn.{TxTurn, tx_step, tx_begun}
 use Rattle.scen_words.specs.declared.command.Command.{Command}
 use Rattle.tap_trace.specs.declared.causes.TapText.{TapText}
-use Rattle.tap_trace.specs.declared.answer.Answer.{Answer}
 use Rattle.tap_trace.specs.declared.turn.ChainText.{ChainText}
 use Rattle.tap_world.specs.declared.event.EventKind.{EventKind}
-use Rattle.tap_world.specs.declared.event.Found.{Found}
 use Rattle.tap_world.specs.ByNumber.{at}
 use Rattle.tap_world.specs.Frames.{Front, bad_in, ether_in, least_in, sent_bytes, sent_front}
-use Rattle.vhost_dev.specs.Refusals.{number_refusal}
-use Rattle.vhost_dev.specs.Settings.{ring_at, hdr_of}
+use Rattle.vhost_dev.specs.Settings.{hdr_of}
 use Rattle.tap_world.specs.Setup.{Setup, op_of}
-use Rattle.tap_world.specs.Line.{File, claimed, has_batch, is_full, is_gone, is_over, is_spent, first_that, front_place, in_batch, in_ring, last_that}
+use Rattle.tap_world.specs.Line.{File, has_batch, is_full, is_gone, is_over, is_spent, first_that, front_place, in_batch, in_ring, last_that}
 use Rattle.tap_world.specs.LineSteps.{ready_front, changed}
 use Rattle.tap_world.specs.Guests.{Vhost, is_free, is_ring, turn_of, Guest}
 use Rattle.tap_steer.specs.Rules.{refuse}
 use Rattle.tap_world.specs.World.{Actor, Doing, World, name_of, newest, table}
-use Rattle.tap_world.specs.World.Doing.{Backed, Backs, Begun, Changes, Disowned, Given, Hosts, Learns, Opened, Opens, Owns, Placed, Purges, Reads, Receives, Released, Resizes, Routed, Shrinks, Teaches, Transmits, Unbacked, Withdrawn, Withdraws}
-use Rattle.tap_world.specs.Effect.{Effect, Onward, only, OnFiles}
+use Rattle.tap_world.specs.World.Doing.{Backs, Begun, Changes, Given, Hosts, Learns, Opened, Opens, Placed, Purges, Reads, Receives, Resizes, Routed, Shrinks, Teaches, Transmits, Withdrawn, Withdraws}
+use Rattle.tap_world.specs.Effect.{Effect, only}
 use Rattle.tap_flow_key.specs.FlowKey.{hash}
 use Rattle.tap_world.specs.Effect.Onward.{Ends, Goes}
 use Rattle.tap_sound.proofs.Kit.{WhereSome, either, where_if, where_only, where_then}
-use Rattle.tap_sound.proofs.Steps.{held, or_else, own, owning, publication, turning}
+use Rattle.tap_sound.proofs.Steps.{held, or_else}
 use Rattle.tap_frame.specs.declared.reading.BadFrame.{BadFrame}
 use Rattle.tap_steer.specs.declared.error.TapErr.{TapErr}
 use Rattle.tap_steer.specs.declared.selection.Select.{Select}
-use Rattle.tap_steer.specs.Table.{Table}
-use Rattle.tap_world.specs.Effect.OnFiles.{NoFile, OnFile}
-use Rattle.tap_trace.specs.declared.kind.Kind.{Kind}
-use Rattle.tap_world.specs.Effect.OnGuests.{NoGuest}
-use Rattle.tap_world.specs.Effect.OnVhosts.{NoVhost}
+use Rattle.tap_world.specs.Effect.OnFiles.{NoFile}
 use Rattle.tap_world.specs.Scripts.{is_kind, next_kind, hand_next, kind_number, purge_next, read_next, rx_next_kind, send_next, shrink_next, tx_next_kind}
 use Rattle.vring_turns.specs.declared.stage.TxStage.{TxStage}
 use Rattle.tap_world.specs.Sound.{holds}
 use Rattle.tap_world.specs.SoundRings.{StandsWith, holds_turn, serves}
-use Rattle.tap_world.specs.SoundActors.{can_be, is_rx_turn, is_tx_turn}
+use Rattle.tap_world.specs.SoundActors.{can_be, is_tx_turn}
 use Rattle.tap_sound.proofs.Taken.{both}
 use Rattle.tap_sound.proofs.Follows.{at_file_kind}
-use Rattle.tap_sound.proofs.Shapes.{Alike, Leaves, RxWay, Shape, TxWay}
+use Rattle.tap_sound.proofs.Shapes.{Leaves, RxWay, Shape, TxWay}
 use Rattle.tap_sound.proofs.Shapes.Shape.{Giving, BackDrives, BackPublishes, BackApproves, Calling, Learning, Owning, Publishing, Quiet, Reopening, RxTurning, Shutting, Sizing, Approves, Touching, Trims, TxTurning, Withdrawing}
 use Rattle.tap_ledger.specs.declared.hand.Hand.TheVariants as hand
 use Rattle.vring_turns.specs.declared.stage.RxStage.TheVariants as rx

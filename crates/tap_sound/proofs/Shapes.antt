@@ -1,5 +1,5 @@
 -- What an event changes has one of few shapes, whatever its row.
-use Rattle.std.proofs.Common.{◌≡◌, ◌⊎◌, ℕ, ◌+◌, List, [], ◌∷◌, Bool, true, false, Option, Some, None, inl, inr, refl, sym, ap, ◌∙◌, subst, true≢false}
+use Rattle.std.proofs.Common.{◌≡◌, ◌⊎◌, ℕ, ◌+◌, List, [], ◌∷◌, true, false, Option, Some, None}
 use Rattle.std.specs.Prelude.{◌||◌, is_none, not}
 use Rattle.guest_mem.specs.Memory.{Contents}
 use Rattle.tap_ledger.specs.declared.act.Act.{Act}
@@ -26,12 +26,12 @@ use Rattle.tap_world.specs.Setup.{Setup, op_of}
 use Rattle.tap_world.specs.Line.{File, claimed}
 use Rattle.tap_world.specs.LineSteps.Change.{Cuts, Owned, Reopens, Shuts, Sizes}
 use Rattle.tap_world.specs.Guests.{Guest, Vhost, is_free, is_free_for, is_ring, turn_of}
-use Rattle.tap_world.specs.World.{Actor, Doing, World, table}
+use Rattle.tap_world.specs.World.{Doing, World, table}
 use Rattle.tap_world.specs.World.Doing.{Backs, Begun, Changes, Given, Opened, Opens, Purges, Receives, Resizes, Shrinks, Transmits, Withdrawn, Withdraws}
-use Rattle.tap_world.specs.Effect.{Effect, OnFiles, OnGuests, OnVhosts, Onward, on_file}
+use Rattle.tap_world.specs.Effect.{Effect, OnFiles, Onward, on_file}
 use Rattle.tap_world.specs.Effect.OnFiles.{NoFile, OnFile}
 use Rattle.tap_world.specs.Effect.OnGuests.{NoGuest, OnGuest}
-use Rattle.tap_world.specs.Effect.OnVhosts.{NoVhost, OnVhost}
+use Rattle.tap_world.specs.Effect.OnVhosts.{NoVhost}
 use Rattle.tap_world.specs.Effect.Onward.{Ends, Goes, Stays}
 use Rattle.tap_world.specs.StepBackend as back
 use Rattle.tap_world.specs.StepControl as control

@@ -1,5 +1,5 @@
 -- The command that holds the writer, before an event and after it.
-use Rattle.std.proofs.Common.{◌≡◌, ◌≢◌, ◌⊎◌, ℕ, zero, suc, List, [], ◌∷◌, Bool, true, false, Option, Some, None, inl, inr, ⊎_elim, refl, sym, ap, ◌∙◌, subst, true≢false}
+use Rattle.std.proofs.Common.{◌≡◌, ◌≢◌, ℕ, zero, suc, List, [], ◌∷◌, Bool, true, false, Option, Some, None, refl, sym, ap, ◌∙◌, subst, true≢false}
 use Rattle.std.specs.Prelude.{slice_get}
 use Rattle.std.specs.Option.{option_map_or}
 use Rattle.scen_words.specs.declared.command.Command.{Command}
@@ -14,11 +14,10 @@ use Rattle.tap_world.specs.Effect.Onward.{Ends, Goes, Stays}
 use Rattle.tap_world.specs.Sound.{EachActor, WriterIsHeld, holds}
 use Rattle.tap_world.specs.SoundActors.{can_be}
 use Rattle.tap_world.specs.SoundTable.{commanded, writing, writer_of}
-use Rattle.tap_sound.proofs.Kit.{some_same}
 use Rattle.tap_sound.proofs.Scripts.{effect_actors}
 use Rattle.tap_sound.proofs.Shapes.{Shape}
 use Rattle.tap_sound.proofs.Taken.{IsEnding, IsStep}
-use Rattle.tap_sound.proofs.Turned.{Turned, at_is, is_at, itself, with_nth_inv}
+use Rattle.tap_sound.proofs.Turned.{Turned, at_is, is_at, itself}
 use Rattle.tap_sound.proofs.Turned.Turned.{Gives, Keeps, Rests, Takes}
 use Rattle.tap_sound.proofs.Writers.{doing_after, effect_writer, holding, is_doing_after}
 

@@ -1,6 +1,6 @@
 -- The writer is held by the command that holds it, after every event.
-use Rattle.std.proofs.Common.{◌≡◌, ◌≢◌, ◌⊎◌, ℕ, List, [], ◌∷◌, Bool, true, false, Option, Some, None, inl, inr, ⊎_elim, refl, sym, ap, ◌∙◌, subst, true≢false}
-use Rattle.std.specs.Prelude.{if◌then◌else◌, ◌==◌, ◌||◌, drop, is_none, is_some, slice_get}
+use Rattle.std.proofs.Common.{◌≡◌, ℕ, List, true, false, Option, Some, None, inl, inr, ⊎_elim, refl, sym, ap, ◌∙◌, subst, true≢false}
+use Rattle.std.specs.Prelude.{◌==◌, ◌||◌, drop, is_none, slice_get}
 use Rattle.guest_mem.specs.Memory.{Contents}
 use Rattle.tap_steer.specs.declared.operation.Op.{Op}
 use Rattle.tap_steer.specs.declared.operation.Op.TheVariants as op
@@ -21,11 +21,11 @@ use Rattle.tap_trace.specs.declared.turn.ChainText.{ChainText}
 use Rattle.tap_world.specs.declared.event.Event.{Event}
 use Rattle.tap_world.specs.declared.event.Found.{Found}
 use Rattle.tap_world.specs.ByNumber.{with_nth}
-use Rattle.tap_world.specs.Guests.{Guest, Vhost}
+use Rattle.tap_world.specs.Guests.{Vhost}
 use Rattle.tap_world.specs.Setup.{Setup}
 use Rattle.tap_world.specs.World.{Actor, Doing, World, table}
-use Rattle.tap_world.specs.World.Doing.{Backed, Backs, Begun, Changes, Disowned, Opened, Opens, Owns, Receives, Released, Shrinks, Transmits, Unbacked, Withdraws}
-use Rattle.tap_world.specs.Effect.{Effect, Ending, Onward, actor_after, files_after, guests_after, vhosts_after, with_effect}
+use Rattle.tap_world.specs.World.Doing.{Backed, Backs, Begun, Changes, Disowned, Opened, Opens, Owns, Released, Shrinks, Unbacked, Withdraws}
+use Rattle.tap_world.specs.Effect.{Effect, Onward, actor_after, files_after, guests_after, with_effect}
 use Rattle.tap_world.specs.Effect.Onward.{Ends, Goes, Stays}
 use Rattle.tap_world.specs.StepBackend as back
 use Rattle.tap_world.specs.StepTable as tables
@@ -39,9 +39,9 @@ use Rattle.tap_sound.proofs.Scripts.{effect_actors}
 use Rattle.tap_sound.proofs.Shapes.{Alike, IsLast, RxWay, Shape, TxWay}
 use Rattle.tap_sound.proofs.Shapes.Shape.{Giving, Approves, BackApproves, BackDrives, BackPublishes, Calling, Learning, Owning, Publishing, Quiet, Reopening, RxTurning, Shutting, Sizing, Touching, Trims, TxTurning, Withdrawing}
 use Rattle.tap_sound.proofs.Standing.{answered}
-use Rattle.tap_sound.proofs.Taken.{IsEnding, IsStep, when_settled}
-use Rattle.tap_sound.proofs.Turned.{IsThere, Turned, held_on, is_at, itself, others, others_on, there_on, with_nth_inv, with_nth_there}
-use Rattle.tap_sound.proofs.Turned.Turned.{Gives, Keeps, Rests, Takes}
+use Rattle.tap_sound.proofs.Taken.{IsStep, when_settled}
+use Rattle.tap_sound.proofs.Turned.{IsThere, Turned, held_on, is_at, others, others_on, there_on, with_nth_inv}
+use Rattle.tap_sound.proofs.Turned.Turned.{Gives, Rests, Takes}
 
 -- how far the command has come after an event
 abbrev pub doing_after : Onward → Doing → Doing
