@@ -30,7 +30,7 @@ use Rattle.tap_world.specs.SoundActors.{CanBe, can_be}
 use Rattle.tap_world.specs.SoundRings.{is_about}
 use Rattle.tap_world.specs.Sound.{EachActor, EachFile, HandIsOwners, has_in_hand, is_receiving, is_serving}
 use Rattle.tap_world.specs.Runs.{begins, has_ended, opening, run, run_phases}
-use Rattle.tap_sound.specs.Names.{IsReached}
+use Rattle.tap_sound.specs.Reached.{IsReached}
 use Rattle.tap_sound.proofs.Kit.{some_same, then_some, where_some}
 use Rattle.tap_sound.proofs.Scripts.{effect_actors, ended_each}
 use Rattle.tap_sound.proofs.Kept.{effect_files}

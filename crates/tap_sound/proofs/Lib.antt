@@ -48,3 +48,10 @@ mod TableKept
 mod TableEvents
 mod Backers
 mod BackerEvents
+mod Tabled
+mod RingSteps
+mod Serving
+mod ServedOn
+mod RingEvents
+mod RingsKept
+mod Soundness

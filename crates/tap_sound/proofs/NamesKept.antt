@@ -16,7 +16,7 @@ use Rattle.tap_world.specs.Step.{step}
 use Rattle.tap_world.specs.Stands.{names_of, times, times_in, times_placed}
 use Rattle.tap_world.specs.SoundNames.{AcceptedStand, EndedStand, NamesStandOnce, accepted_by, awaited}
 use Rattle.tap_world.specs.Runs.{IsRun, actors_from, begins, has_ended, new_file, opening, run, run_phases}
-use Rattle.tap_sound.specs.Names.{IsReached}
+use Rattle.tap_sound.specs.Reached.{IsReached}
 use Rattle.tap_sound.proofs.Kit.{some_same, then_some, where_some}
 use Rattle.tap_sound.proofs.Scripts.{effect_actors}
 use Rattle.tap_sound.proofs.Taken.{IsStep, each_with_nth, if_some, step_is, when_settled}

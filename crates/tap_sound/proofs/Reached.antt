@@ -1,6 +1,6 @@
 -- What holds in each world that a run ends in.
 use Rattle.std.proofs.Common.{◌≡◌, ℕ, zero, suc, ◌+◌, ◌-◌, ◌^◌, ◌≤◌, List, [], ◌∷◌, map, Option, Some, None, inl, ⊎_elim, refl, sym, ap, ◌∙◌, subst, arith}
-use Rattle.std.specs.Prelude.{option_map, slice_get}
+use Rattle.std.specs.Prelude.{option_map, slice_get, take}
 use Rattle.scen_text.specs.declared.scenario.Phase.{Phase}
 use Rattle.scen_text.specs.declared.scenario.Scenario.{Scenario}
 use Rattle.tap_world.specs.declared.event.Event.{Event}
@@ -15,7 +15,7 @@ use Rattle.tap_world.specs.Runs.{IsRun, actors_from, begins, has_ended, new_file
 use Rattle.tap_world.specs.Sound.{HasEpochs}
 use Rattle.tap_world.specs.SoundActors.{CanBe}
 use Rattle.tap_sound.specs.Kept.{IsOrdered}
-use Rattle.tap_sound.specs.Reached.{HasPlaces, IsKept}
+use Rattle.tap_sound.specs.Reached.{HasPlaces, IsKept, IsReached}
 use Rattle.tap_sound.proofs.Kit.{some_same, then_some}
 use Rattle.tap_sound.proofs.Kept.{epochs_are_kept, lines_are_kept, versions_are_kept}
 use Rattle.tap_sound.proofs.Claims.{claims_are_kept}
@@ -111,18 +111,29 @@ opening_kept s places = record {
 
 -- ---- all phases
 
+-- they hold, and nobody is at a command
+abbrev IsRested : World → Type 0
+IsRested w = IsKept w × IsStill w
+
 phases_kept : (s : Setup) (number : ℕ) (ps : List Phase) (es : List (List Event)) (w v : World) → run_phases s number ps es w ≡ Some v
-    → IsKept w → IsStill w → IsKept v
-phases_kept s number [] [] w v e h still = subst IsKept (some_same w v e) h
-phases_kept s number [] (d ∷ ds) w v e h still = absurd (cc (e))
-phases_kept s number (p ∷ ps) [] w v e h still = absurd (cc (e))
-phases_kept s number (p ∷ ps) (es ∷ more) w v e h still =
+    → IsRested w → IsRested v
+phases_kept s number [] [] w v e h = subst IsRested (some_same w v e) h
+phases_kept s number [] (d ∷ ds) w v e h = absurd (cc (e))
+phases_kept s number (p ∷ ps) [] w v e h = absurd (cc (e))
+phases_kept s number (p ∷ ps) (es ∷ more) w v e h =
     let t = then_some (run s es (begins number p w)) _ v e in
     let c = if_some (has_ended t.0) _ v t.2 in
     let rest = run_rests s es (begins number p w) t.0 t.1 (begun_rest p (newest w) 0 p.actors) in
-    phases_kept s (number + 1) ps more t.0 v c.1 (phase_is_kept s es (begins number p w) t.0 t.1 (begins_kept number p w h still))
-    (λ i a at_. rest i a at_ (ended_each t.0.actors i a c.0 at_))
+    phases_kept s (number + 1) ps more t.0 v c.1
+    (phase_is_kept s es (begins number p w) t.0 t.1 (begins_kept number p w h.0 h.1), λ i a at_. rest i a at_ (ended_each t.0.actors i a c.0 at_))
+
+opening_rested : (s : Setup) → HasPlaces s → IsRested (opening s)
+opening_rested s places = (opening_kept s places, λ i a at_. absurd (no_actor i a at_))
 
 pub run_is_kept : (s : Scenario) (events : List (List Event)) (w : World) → HasPlaces (setup_of s) → IsRun s events w → IsKept w
-run_is_kept s events w places e =
-    phases_kept (setup_of s) 0 s.phases events (opening (setup_of s)) w e (opening_kept (setup_of s) places) (λ i a at_. absurd (no_actor i a at_))
+run_is_kept s events w places e = (phases_kept (setup_of s) 0 s.phases events (opening (setup_of s)) w e (opening_rested (setup_of s) places)).0
+
+pub reached_is_kept : (s : Scenario) (w : World) → HasPlaces (setup_of s) → IsReached s w → IsKept w
+reached_is_kept s w places r =
+    let before = phases_kept (setup_of s) 0 (take r.ended s.phases) r.events (opening (setup_of s)) r.before r.is_before (opening_rested (setup_of s) places) in
+    phase_is_kept (setup_of s) r.so_far (begins r.ended r.phase r.before) w r.is (begins_kept r.ended r.phase r.before before.0 before.1)

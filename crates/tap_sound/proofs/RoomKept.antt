@@ -24,7 +24,7 @@ use Rattle.tap_world.specs.Effect.{OnFiles, files_after}
 use Rattle.tap_world.specs.Effect.OnFiles.{NoFile, OnFile}
 use Rattle.tap_world.specs.Scripts.{is_kind, next_kind, shrink_next}
 use Rattle.tap_world.specs.Step.{row, step}
-use Rattle.tap_world.specs.SoundActors.{can_be}
+use Rattle.tap_world.specs.SoundActors.{CanBe, can_be}
 use Rattle.tap_world.specs.Sound.{EachActor, EachFile, HasRoom, HasSeen, capacity_before, has_left}
 use Rattle.tap_world.specs.SoundTable.{Agreed, AgreesWithTable, commanded, expected, of_table, writing}
 use Rattle.tap_sound.specs.Kept.{IsOrdered, leaves_sizes}

@@ -8,7 +8,7 @@ use Rattle.tap_world.specs.World.{World}
 use Rattle.tap_world.specs.Step.{step}
 use Rattle.tap_world.specs.SoundActors.{CanBe}
 use Rattle.tap_world.specs.Sound.{EachActor, EachFile, HandIsOwners}
-use Rattle.tap_sound.specs.Names.{IsReached}
+use Rattle.tap_sound.specs.Reached.{IsReached}
 
 -- Where each command has come as far as it can, every event keeps that a frame in hand is the batch's front, that its
 -- worker owns the file, and that this worker's receive turn is under way with a frame in hand.

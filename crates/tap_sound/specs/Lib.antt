@@ -7,3 +7,5 @@ pub mod Names
 pub mod Room
 pub mod Hand
 pub mod Tabled
+pub mod Served
+pub mod Soundness

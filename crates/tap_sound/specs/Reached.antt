@@ -1,14 +1,27 @@
 -- This project's own: what holds in each world that a run ends in.
-use Rattle.std.specs.Prelude.{◌≡◌, ℕ, ◌^◌, ◌-◌, ◌≤◌, List, Some}
+use Rattle.std.specs.Prelude.{◌≡◌, ℕ, ◌^◌, ◌-◌, ◌≤◌, List, take, slice_get, Some}
+use Rattle.scen_text.specs.declared.scenario.Phase.{Phase}
 use Rattle.scen_text.specs.declared.scenario.Scenario.{Scenario}
 use Rattle.tap_world.specs.declared.event.Event.{Event}
 use Rattle.tap_world.specs.ByNumber.{at}
 use Rattle.tap_world.specs.Setup.{Declared, Setup, setup_of}
 use Rattle.tap_world.specs.World.{World}
-use Rattle.tap_world.specs.Runs.{IsRun, run}
+use Rattle.tap_world.specs.Runs.{IsRun, begins, opening, run, run_phases}
 use Rattle.tap_world.specs.Sound.{ClaimIsHeld, EachActor, EachFile, HasEpochs, HasSeen, IsEmptyWhenShut}
 use Rattle.tap_world.specs.SoundActors.{CanBe}
 use Rattle.tap_sound.specs.Kept.{IsOrdered}
+
+-- a world that a run of a scenario reaches: so many of its phases have ended, and of the next one there were some
+-- events
+pub record IsReached (s : Scenario) (w : World) : Type 0 where
+  pub ended : ℕ
+  pub events : List (List Event)
+  pub before : World
+  pub is_before : run_phases (setup_of s) 0 (take ended s.phases) events (opening (setup_of s)) ≡ Some before
+  pub phase : Phase
+  pub is_next : slice_get s.phases ended ≡ Some phase
+  pub so_far : List Event
+  pub is : run (setup_of s) so_far (begins ended phase before) ≡ Some w
 
 -- the parts of soundness that every event keeps by themselves
 pub record IsKept (w : World) : Type 0 where
@@ -23,10 +36,14 @@ pub record IsKept (w : World) : Type 0 where
 abbrev pub HasPlaces : Setup → Type 0
 HasPlaces s = (file : ℕ) (d : Declared) → at s.files file ≡ Some d → d.first ≤ 2 ^ 40 - 1
 
--- They hold in the world that a run ends in, and from the beginning of a phase in each world on the way.
+-- They hold in the world that a run ends in, in each world that a run reaches, and from one world of a phase on in each
+-- later one.
 abbrev pub RunIsKept : Type 0
 RunIsKept =
     (s : Scenario) (events : List (List Event)) (w : World) → HasPlaces (setup_of s) → IsRun s events w → IsKept w
 
 abbrev pub PhaseIsKept : Type 0
 PhaseIsKept = (s : Setup) (es : List Event) (w v : World) → run s es w ≡ Some v → IsKept w → IsKept v
+
+abbrev pub ReachedIsKept : Type 0
+ReachedIsKept = (s : Scenario) (w : World) → HasPlaces (setup_of s) → IsReached s w → IsKept w

@@ -12,8 +12,11 @@ ghost use Rattle.tap_sound.specs.Held.{HoldersAreKept};
 ghost use Rattle.tap_sound.specs.Kept.{ClaimsAreKept, EpochsAreKept, LinesAreKept, RoomIsKept, ShutIsKept, StandsAreKept, VersionsAreKept};
 ghost use Rattle.tap_sound.specs.Laws.{AllIsDone, EventsAreScripts, EventsBeginScripts, OrderIsRun};
 ghost use Rattle.tap_sound.specs.Names.{NamesAreKept, NamesStandAfterRuns, NamesStandInRuns};
-ghost use Rattle.tap_sound.specs.Reached.{PhaseIsKept, RunIsKept};
+ghost use Rattle.tap_sound.specs.Reached.{PhaseIsKept, ReachedIsKept, RunIsKept};
 ghost use Rattle.tap_sound.specs.Room.{RoomIsAlwaysKept};
+ghost use Rattle.tap_sound.specs.Served.{RingsAreKept};
+ghost use Rattle.tap_sound.specs.Soundness.{SoundnessIsKept};
+ghost use Rattle.tap_sound.specs.Tabled.{TableIsKept};
 ghost use Rattle.tap_sound.specs.Used.{UsedIsCounted};
 
 /// In a run the events of each actor are the scripts of its commands, one after another; on the way to its end the last
@@ -74,10 +77,25 @@ pub fn holders_are_kept()
     ensures { HoldersAreKept }
 {}
 
+/// Every event keeps what files and rings have of the queue table, but for the command that holds the writer.
+pub fn table_is_kept()
+    ensures { TableIsKept }
+{}
+
+/// Every event but four keeps that the rings of vhosts are in order, and stand with the turns that serve them: a call on a
+/// vhost, and the events of a turn that fetch, copy and publish.
+pub fn rings_are_kept()
+    ensures { RingsAreKept }
+{
+    vring_turns::receive_standing();
+    vring_turns::transmit_standing();
+}
+
 /// So these parts of soundness hold in each world that a run ends in, and in each world on the way.
 pub fn run_is_kept()
     ensures whole { RunIsKept }
     ensures phase { PhaseIsKept }
+    ensures reached { ReachedIsKept }
 {}
 
 /// Every event keeps that each name stands at most once, and that each accepted name stands but between the event that
@@ -99,3 +117,11 @@ pub fn hand_is_owners()
     ensures kept { HandIsKept }
     ensures reached { HandIsOwnersInRuns }
 {}
+
+/// So each of these events keeps a sound world sound, in all ten parts.
+pub fn soundness_is_kept()
+    ensures { SoundnessIsKept }
+{
+    vring_turns::receive_standing();
+    vring_turns::transmit_standing();
+}
