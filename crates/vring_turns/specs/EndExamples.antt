@@ -7,7 +7,7 @@ use Rattle.vring_turns.specs.TxTurn.{TxState, tx_step}
 use Rattle.vring_turns.specs.TxRun.{Moment}
 use Rattle.vring_turns.specs.RxTurn.{RxState, rx_step}
 use Rattle.vring_turns.specs.RxRun.{RxMoment}
-use Rattle.vring_turns.specs.RxLine.{Joins, Purges, Cuts, Meets, left_by, line_by}
+use Rattle.vring_turns.specs.RxLine.{Joins, Purges, Cuts, Meets, line_by}
 use Rattle.vring_turns.specs.Ends.{tx_ends_by, rx_ends_by}
 use Rattle.vring_turns.specs.Example.{queue_on, frame_with}
 use Rattle.vring_turns.specs.TxExamples.{tx_start, small_ring, sendable, good}
