@@ -1,4 +1,4 @@
--- This project's own: what ends turns on worked rings, read off their steps, and the line of a queue that others change.
+-- This project's own: what ends turns on worked rings, read off their steps, and a line that others change.
 use Rattle.std.specs.Prelude.{◌≡◌, ℕ, zero, suc, Bool, true, false, List, [], ◌∷◌, None, Some}
 use Rattle.vring_split.specs.declared.fault.RingFault.TheVariants.{Direction}
 use Rattle.tap_frame.specs.Frame.{FrameValue}
@@ -7,7 +7,7 @@ use Rattle.vring_turns.specs.TxTurn.{TxState, tx_step}
 use Rattle.vring_turns.specs.TxRun.{Moment}
 use Rattle.vring_turns.specs.RxTurn.{RxState, rx_step}
 use Rattle.vring_turns.specs.RxRun.{RxMoment}
-use Rattle.vring_turns.specs.RxLine.{Joins, Purges, Cuts, Meets, left_by, line_by}
+use Rattle.vring_turns.specs.RxLine.{Joins, Purges, Cuts, Meets, line_by}
 use Rattle.vring_turns.specs.Ends.{tx_ends_by, rx_ends_by}
 use Rattle.vring_turns.specs.Example.{queue_on, frame_with}
 use Rattle.vring_turns.specs.TxExamples.{tx_start, small_ring, sendable, good}
@@ -52,5 +52,6 @@ ReceiveEnds = (rx_ends_by false (over_one true) ≡ Short 72 40 ∷ []) × (rx_e
 -- of two frames that wait the newest is cut, a third one is sent, and the first one is purged
 abbrev pub LineIsCut : Type 0
 LineIsCut =
-    let changes = Meets (Cuts (frame_with 1 0)) ∷ Meets (Joins (frame_with 2 0)) ∷ Meets (Purges (frame_with 0 0)) ∷ [] in
-    line_by changes (frame_with 0 0 ∷ frame_with 1 0 ∷ []) ≡ frame_with 0 0 ∷ frame_with 2 0 ∷ []
+    line_by
+    (Meets (Cuts (frame_with 1 0)) ∷ Meets (Joins (frame_with 2 0)) ∷ Meets (Purges (frame_with 0 0)) ∷ [])
+    (frame_with 0 0 ∷ frame_with 1 0 ∷ []) ≡ frame_with 0 0 ∷ frame_with 2 0 ∷ []

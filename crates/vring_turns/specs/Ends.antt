@@ -169,7 +169,8 @@ ReceiveTurnsEnd =
     → IsWholeRx (first_answer backed q.stopped) (rx_begun mergeable header) q ms end
     → option_to_list (first_answer backed q.stopped) ++ rx_ends_by false ms ≡ end ∷ []
 
--- a fetch that finds nothing is made where the chains are too short for the frame in hand, and fewer than it may go into
+-- a fetch that finds nothing is made where the chains are too short for the frame in hand, and fewer than it may go
+-- into
 abbrev pub IsShortAt : Act → RxState → Type 0
 IsShortAt act.Nothing was = IsGathering was.turn was.queue
 IsShortAt other was = Unit {0}

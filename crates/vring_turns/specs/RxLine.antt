@@ -20,8 +20,8 @@ use Rattle.vring_turns.specs.Hands.{Moves}
 
 -- What happens.
 
--- what another actor does to the queue between two steps: it sends a frame, which is known to wait behind the others; it
--- purges the front one; or it cuts the newest one
+-- what another actor does to the queue between two steps: it sends a frame, which is known to wait behind the others;
+-- it purges the front one; or it cuts the newest one
 pub data Other : Type 0 where
   Joins : FrameValue → Other
   Purges : FrameValue → Other
