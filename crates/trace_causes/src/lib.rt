@@ -31,4 +31,4 @@ pub use laws::{cause_laws, field_laws};
 pub use op_reading::op_text;
 pub use operations::put_op_text;
 pub use shown::{FrameName, Hash, NameOrDash};
-pub use table::{Word, next_word, word_of};
+pub use table::{Word, next_word};

@@ -22,7 +22,7 @@ pub trait Word: Copy + 'static {
         ensures { result.now ≡ words };
 }
 
-// The word that a field is.
+/// The word that a field is.
 #[tactic(auto, unfolding(crate::specs::Table::word_in))]
 pub fn word_of<W: Word>(field: &[u8]) -> Option<W>
     ensures { result ≡ word_in W.spelling W.words field.now }
