@@ -45,6 +45,10 @@ has_answer c x = list_any (λ (a : AnswerAt). same_told a.told x.told) c.answers
 abbrev pub is_seen_from : Case → AnswerAt → Bool
 is_seen_from c a = nat_le (seen_before c a.told) a.seen && nat_le (newest_before c a.told.phase) a.seen
 
+-- and each version that its command published,
+abbrev pub is_seen_own : Case → AnswerAt → Bool
+is_seen_own c a = not (list_any (λ (o : OpAt). nat_lt a.seen o.at.version) (ops_of c a.told.command))
+
 -- at most the newest version of its own phase,
 abbrev pub is_seen_to : Case → AnswerAt → Bool
 is_seen_to c a = nat_le a.seen (newest_of c a.told.phase)
@@ -154,6 +158,7 @@ b_fails c =
     ++ fails_order of_answer is_another c.answers
     ++ fails_missing c (has_answer c) c.asked
     ++ fails_each of_answer (is_seen_from c) c.answers
+    ++ fails_each of_answer (is_seen_own c) c.answers
     ++ fails_each of_answer (is_seen_to c) c.answers
     ++ fails_each of_answer (is_seen_below c) c.answers
     ++ fails_each of_answer (λ a. is_answer c a a.asked) c.answers

@@ -1,7 +1,7 @@
 -- This project's own, clause h of a legal trace: each accepted frame has one fate, and no other name stands in the
 -- trace.
 use Rattle.std.specs.Prelude.{ℕ, ◌+◌, ◌==◌, ◌&&◌, ◌||◌, not, nat_lt, if◌then◌else◌, Bool, true, false, List, [], ◌∷◌, ◌++◌, length, filter, flat_map, is_none, Option, Some, None}
-use Rattle.std.specs.List.{list_all}
+use Rattle.std.specs.List.{list_all, list_any}
 use Rattle.std.specs.Option.{option_map_or}
 use Rattle.tap_frame.specs.declared.name.Name.{Name}
 use Rattle.scen_words.specs.declared.command.Command.{Command}
@@ -108,8 +108,13 @@ abbrev pub packet_entries : Case → ℕ → List EntryAt
 packet_entries c file = filter (λ (e : EntryAt). e.file == file && is_packet e.at.fate) c.entries
 
 -- Packets of all receive turns on a file are its `guest` and `overrun` entries.
+abbrev pub is_entry_of : List EntryAt → Packet → Bool
+is_entry_of es p = option_map_or (λ name. list_any (λ (e : EntryAt). same_name e.at.name name) es) p.name true
+
 abbrev pub has_packets : Case → Replays → FileAt → Bool
-has_packets c rs f = length (packet_entries c f.part.file) == length (packets_of c f.part.file rs)
+has_packets c rs f =
+    let ps : List Packet = packets_of c f.part.file rs in
+    length (packet_entries c f.part.file) == length ps && list_all (is_entry_of (packet_entries c f.part.file)) ps
 
 abbrev pub file_packets_fail : Case → Replays → FileAt → List ℕ
 file_packets_fail c rs f = packets_fail (packet_entries c f.part.file) (packets_of c f.part.file rs)

@@ -1,6 +1,6 @@
 -- This project's own, clause g of a legal trace: the steps on the guests, and what they answer.
 use Rattle.std.specs.Prelude.{ℕ, ◌+◌, ◌==◌, ◌&&◌, ◌||◌, not, nat_lt, if◌then◌else◌, Bool, true, List, [], ◌∷◌, ◌++◌, length, flat_map, Option, Some, None}
-use Rattle.std.specs.List.{list_any}
+use Rattle.std.specs.List.{list_any, list_all}
 use Rattle.std.specs.Option.{option_map_or}
 use Rattle.guest_mem.specs.declared.region.Region.{Region}
 use Rattle.scen_words.specs.declared.command.Command.{Command}
@@ -71,8 +71,7 @@ is_need c command need header e = serves c e.file command && header + e.at.len =
 abbrev pub fits_short : Case → Replays → ℕ → Answer → Bool
 fits_short c rs command (answer.Turn packets bytes (text.Short need had) chains) =
     nat_lt had need
-    && (not (is_whole rs) || list_any (λ header. list_any (is_need c command need header) c.entries)
-    (headers_of command rs))
+    && list_all (λ header. list_any (is_need c command need header) c.entries) (headers_of command rs)
 fits_short c rs command other = true
 
 -- ---- rings

@@ -27,6 +27,10 @@ is_own_next a b = a.phase == b.phase && a.actor == b.actor && nat_lt a.command b
 abbrev pub is_before : Told → Told → Bool
 is_before a b = nat_lt a.phase b.phase || is_own_next a b
 
+-- a later command of the same actor, also of a later phase
+abbrev pub is_later_of_actor : Told → Told → Bool
+is_later_of_actor a b = a.actor == b.actor && is_before a b
+
 -- ---- commands
 
 abbrev pub asked_at : Case → ℕ → Option Asked
@@ -184,4 +188,5 @@ is_above_before place t n as_ =
 
 abbrev pub is_below_later : (AnswerAt → Option ℕ) → Told → ℕ → List AnswerAt → Bool
 is_below_later place t n as_ =
-    not (list_any (λ a. is_own_next t a.told && option_map_or (λ p. nat_lt p n) (place a) false) as_)
+    not
+    (list_any (λ a. is_later_of_actor t a.told && option_map_or (λ p. nat_lt p n) (place a) false) as_)

@@ -1,7 +1,7 @@
 -- This project's own, of clause g of a legal trace: the steps on a guest as one fold, from zeros, the first settings
 -- and no drivers. A turn is replayed by the steps of its worker; which frames it had in hand is read off the file's
 -- line.
-use Rattle.std.specs.Prelude.{ℕ, zero, suc, ◌-◌, ◌^◌, ◌==◌, ◌&&◌, if◌then◌else◌, Bool, true, false, List, [], ◌∷◌, ◌++◌, length, map, filter, Option, Some, None, is_none}
+use Rattle.std.specs.Prelude.{ℕ, zero, suc, ◌-◌, ◌^◌, ◌==◌, ◌&&◌, if◌then◌else◌, Bool, true, false, List, [], ◌∷◌, ◌++◌, length, map, filter, Option, Some, None, is_none, fold, max}
 use Rattle.std.specs.Option.{option_map_or}
 use Rattle.guest_mem.specs.Memory.{Contents, first_bad}
 use Rattle.tap_frame.specs.declared.name.Name.{Name}
@@ -30,7 +30,8 @@ use Rattle.tap_world.specs.Setup.{frame_of}
 use Rattle.tap_world.specs.World.{name_of}
 use Rattle.tap_world.specs.StepBackend.{back_answer, back_refusal, unfit_for}
 use Rattle.tap_world.specs.StepControl.{Call, call_of, may_call, peeked, poke_leaves, poke_told, vhost_of}
-use Rattle.tap_legal.specs.Numbered.{AnswerAt, OpAt, StepAt}
+use Rattle.tap_legal.specs.Numbered.{AnswerAt, EntryAt, OpAt, StepAt}
+use Rattle.tap_legal.specs.Served.{served_by}
 use Rattle.tap_legal.specs.Codes.{same_answer, same_kind}
 use Rattle.tap_legal.specs.Case.{Case}
 use Rattle.tap_legal.specs.Lookups.{answer_of, entry_named, own_ops, table_at}
@@ -83,10 +84,17 @@ pub record Replay : Type 0 where
 abbrev pub broken_at : ℕ → Replay → Replay
 broken_at line r = record r { fails = r.fails ++ line ∷ []; broken = true }
 
+-- what a turn needed that ended for want of chains isn't seen in its steps; it is looked at by itself
+abbrev pub with_need_of : Answer → Answer → Answer
+with_need_of (answer.Turn p b (text.Short need had) cs) (answer.Turn packets bytes (text.Short n h) chains) =
+    answer.Turn packets bytes (text.Short need h) chains
+with_need_of told x = x
+
 -- a command is done with this answer
 abbrev pub answers : Case → ℕ → Answer → Replay → Replay
 answers c command x r =
-    let wrong : List ℕ = option_map_or (λ (a : AnswerAt). if same_answer a.answer x then [] else a.line ∷ [])
+    let wrong : List ℕ = option_map_or
+    (λ (a : AnswerAt). if same_answer a.answer (with_need_of a.answer x) then [] else a.line ∷ [])
     (answer_of c command) [] in
     record r { finished = command ∷ r.finished; fails = r.fails ++ wrong }
 
@@ -206,29 +214,31 @@ frame_named c name = do
   f ← frame_of c.setup name e.at.len
   Some (record { name = name; hdr = f.hdr; made = f.ether; mark = length f.ether })
 
--- a frame that isn't copied: of a Short its length is told, and else it is as long as it may be
+-- a frame that has so many bytes, of which it isn't told which they are
 abbrev pub frame_of_length : ℕ → FrameValue
 frame_of_length len = record { name = name_of 0 0; hdr = []; made = []; mark = len }
 
--- what the turn needed last, where it ended for want of chains
-abbrev pub short_of : ℕ → Answer → Option ℕ
-short_of left (answer.Turn packets bytes (text.Short need had) chains) = only_if (left == packets) need
-short_of left other = None
+-- the lengths of the frames on the file that the turn serves
+abbrev pub lengths_for : Case → ℕ → List ℕ
+lengths_for c command =
+    option_map_or
+    (λ file. map (λ (e : EntryAt). e.at.len) (filter (λ (e : EntryAt). e.file == file) c.entries))
+    (served_by c command) []
 
-abbrev pub length_told : Case → ℕ → RxTurn → ℕ
-length_told c command t =
-    option_map_or (λ need. need - t.header)
-    (option_map_or (λ (a : AnswerAt). short_of t.packets a.answer) (answer_of c command) None) (2 ^ 32)
+-- a frame that isn't copied is one of these: no chains are enough for it that aren't for the longest
+abbrev pub uncopied : List ℕ → Hand
+uncopied [] = hand.NotReady 0
+uncopied (len ∷ lens) = hand.Got (frame_of_length (fold max len lens))
 
 -- a name that wasn't sent has no frame, so its copy is a step that can't be
-abbrev pub hand_of : Case → ℕ → RxTurn → Coming → Hand
-hand_of c command t (Copies name) = hand.Got (option_map_or (λ f. f) (frame_named c name) (frame_of_length (2 ^ 32)))
-hand_of c command t StaysOrRunsOver = hand.Got (frame_of_length (length_told c command t))
-hand_of c command t NoFrame = hand.NotReady 0
+abbrev pub hand_of : Case → ℕ → Coming → Hand
+hand_of c command (Copies name) = hand.Got (option_map_or (λ f. f) (frame_named c name) (frame_of_length (2 ^ 32)))
+hand_of c command StaysOrRunsOver = uncopied (lengths_for c command)
+hand_of c command NoFrame = hand.NotReady 0
 
 -- the kinds of the command's steps to come
 abbrev pub ahead : ℕ → List StepAt → List Kind
 ahead command ss = map (λ (s : StepAt). s.at.kind) (filter (λ (s : StepAt). s.at.command == command) ss)
 
 abbrev pub hand_for : Case → Under → RxTurn → List StepAt → Hand
-hand_for c u t ss = hand_of c u.command t (coming_first (quota t.mergeable) (ahead u.command ss))
+hand_for c u t ss = hand_of c u.command (coming_first (quota t.mergeable) (ahead u.command ss))
