@@ -76,3 +76,90 @@ one_place_trace =
     codes "taptrace 1\nphase 0 1\nop 1 0 setiff 0 tap0 1102\nans 0 0 1 ok 1\nans 0 1 1 placed 0 0 1 14\n"
     ++ codes "ans 0 2 1 drop Full 0 1 0\nans 0 3 1 read 0.1.0 0 0200000000010200000000020800\nfile 0 1 1\n"
     ++ codes "line 0 1 0.1.0 14 read\nend\n"
+
+-- ---- an empty line
+
+-- a receive ring whose index a poke moves too far, and a turn without a frame
+abbrev pub poked : List ℕ
+poked =
+    codes "tapscen 1\nfile 0 4\nregion 0 0 65536\nvhost 0 0\nsetiff 0 tap0 5102\nhdrsize 0 12\n"
+    ++ codes "features 0 0000000100008000\nvnum 0 0 2\ndrive 0 0 0\nvaddr 0 0 0 32 44\nbackend 0 0 0\n"
+    ++ codes "poke 0 34 0500\nrxturn 0\n"
+
+-- its trace
+abbrev pub poked_trace : List ℕ
+poked_trace =
+    codes "taptrace 1\nphase 0 1\nop 1 0 setiff 0 tap0 5102\nop 2 1 hdrsize 0 12\nop 3 6 back 0 rx 0\n"
+    ++ codes "ans 0 0 1 ok 1\nans 0 1 2 ok 2\nans 0 2 2 ok\nans 0 3 2 ok\nans 0 4 2 ok\nans 0 5 2 ok\n"
+    ++ codes "ans 0 6 3 ok 3\nans 0 7 3 ok\nans 0 8 3 turn 0 0 idle\nfile 0 0 0\nguest 0\nstep 0 2 features 0\n"
+    ++ codes "step 0 3 num 0 0\nstep 0 4 drive 0 0\nstep 0 5 addr 0 0\nstep 0 6 backend 0 0 1\nstep 0 7 poke\n"
+    ++ codes "step 0 8 notices 0 0 0\nring 0 0\nbase 0\nring 0 1\nbase 0\nend\n"
+
+-- ---- a full ring, and a place later
+
+-- a ring of one place is full; in a later phase it is read, and a frame is placed
+abbrev pub later : List ℕ
+later =
+    codes "tapscen 1\nfile 0 1\nsetiff 0 tap0 1102\nphase 1\n@0 send tap0 - 0200000000010200000000020800\n"
+    ++ codes "@0 send tap0 - 0200000000010200000000020800\nend\nread 0 100\n"
+    ++ codes "send tap0 - 0200000000010200000000020800\n"
+
+-- its trace
+abbrev pub later_trace : List ℕ
+later_trace =
+    codes "taptrace 1\nphase 0 1\nop 1 0 setiff 0 tap0 1102\nans 0 0 1 ok 1\nphase 1 1\n"
+    ++ codes "ans 0 1 1 placed 0 0 1 14\nans 0 2 1 drop Full 0 1 0\nphase 2 1\n"
+    ++ codes "ans 0 3 1 read 0.1.0 0 0200000000010200000000020800\nans 0 4 1 placed 0 1 1 14\nfile 0 2 1\n"
+    ++ codes "line 0 1 0.1.0 14 read\nline 1 1 0.4.0 14 waiting\nend\n"
+
+-- ---- short chains
+
+-- two chains are too short for a frame
+abbrev pub short : List ℕ
+short =
+    codes "tapscen 1\nfile 0 4\nregion 0 0 65536\nvhost 0 0\nsetiff 0 tap0 5102\nhdrsize 0 12\n"
+    ++ codes "features 0 0000000100008000\nvnum 0 0 2\ndrive 0 0 0\nvaddr 0 0 0 32 44\nbackend 0 0 0\n"
+    ++ codes "postin 0 0 40\npostin 0 0 40\n"
+    ++ codes "send tap0 - 0200000000010200000000020800ababababababababababababababababababababababababababababab"
+    ++ codes "ababababababababababababababababababababababababababababababababababababababababababababababababab"
+    ++ codes "abababababababab\n"
+    ++ codes "send tap0 - 0200000000010200000000020800ababababababababababababababababababababababababababababab"
+    ++ codes "ababababababababababababababab\nrxturn 0\n"
+
+-- its trace
+abbrev pub short_trace : List ℕ
+short_trace =
+    codes "taptrace 1\nphase 0 1\nop 1 0 setiff 0 tap0 5102\nop 2 1 hdrsize 0 12\nop 3 6 back 0 rx 0\n"
+    ++ codes "ans 0 0 1 ok 1\nans 0 1 2 ok 2\nans 0 2 2 ok\nans 0 3 2 ok\nans 0 4 2 ok\nans 0 5 2 ok\n"
+    ++ codes "ans 0 6 3 ok 3\nans 0 7 3 posted 0\nans 0 8 3 posted 1\nans 0 9 3 placed 0 0 1 100\n"
+    ++ codes "ans 0 10 3 placed 0 1 1 58\nans 0 11 3 turn 0 0 short 112 80\nfile 0 2 2\n"
+    ++ codes "line 0 1 0.9.0 100 waiting\nline 1 1 0.10.0 58 waiting\nguest 0\nstep 0 2 features 0\n"
+    ++ codes "step 0 3 num 0 0\nstep 0 4 drive 0 0\nstep 0 5 addr 0 0\nstep 0 6 backend 0 0 1\n"
+    ++ codes "step 0 7 post 0 0\nstep 0 8 post 0 0\nstep 0 11 notices 0 0 0\nstep 0 11 fetch 0 0 0 0\n"
+    ++ codes "step 0 11 fetch 0 0 1 1\nstep 0 11 none 0 0\nstep 0 11 notices 0 0 1\nstep 0 11 none 0 0\n"
+    ++ codes "ring 0 0\nbase 0\nring 0 1\nbase 0\nend\n"
+
+-- ---- frames alike
+
+-- three frames alike, and chains for two of them
+abbrev pub alike : List ℕ
+alike =
+    codes "tapscen 1\nfile 0 4\nregion 0 0 65536\nvhost 0 0\nsetiff 0 tap0 5102\nhdrsize 0 12\n"
+    ++ codes "features 0 0000000100008000\nvnum 0 0 2\ndrive 0 0 0\nvaddr 0 0 0 32 44\nbackend 0 0 0\n"
+    ++ codes "postin 0 0 100\npostin 0 0 100\nsend tap0 - 0200000000010200000000020800abababababab\n"
+    ++ codes "send tap0 - 0200000000010200000000020800abababababab\n"
+    ++ codes "send tap0 - 0200000000010200000000020800abababababab\nrxturn 0\n"
+
+-- its trace
+abbrev pub alike_trace : List ℕ
+alike_trace =
+    codes "taptrace 1\nphase 0 1\nop 1 0 setiff 0 tap0 5102\nop 2 1 hdrsize 0 12\nop 3 6 back 0 rx 0\n"
+    ++ codes "ans 0 0 1 ok 1\nans 0 1 2 ok 2\nans 0 2 2 ok\nans 0 3 2 ok\nans 0 4 2 ok\nans 0 5 2 ok\n"
+    ++ codes "ans 0 6 3 ok 3\nans 0 7 3 posted 0\nans 0 8 3 posted 1\nans 0 9 3 placed 0 0 1 20\n"
+    ++ codes "ans 0 10 3 placed 0 1 1 20\nans 0 11 3 placed 0 2 1 20\nans 0 12 3 turn 2 64 short 32 0\n"
+    ++ codes "file 0 3 3\nline 0 1 0.9.0 20 guest\nline 1 1 0.10.0 20 guest\nline 2 1 0.11.0 20 waiting\n"
+    ++ codes "guest 0\nstep 0 2 features 0\nstep 0 3 num 0 0\nstep 0 4 drive 0 0\nstep 0 5 addr 0 0\n"
+    ++ codes "step 0 6 backend 0 0 1\nstep 0 7 post 0 0\nstep 0 8 post 0 0\nstep 0 12 notices 0 0 0\n"
+    ++ codes "step 0 12 fetch 0 0 0 0\nstep 0 12 copy 0 0 0 0.9.0\nstep 0 12 fetch 0 0 1 1\n"
+    ++ codes "step 0 12 copy 0 0 1 0.10.0\nstep 0 12 none 0 0\nstep 0 12 notices 0 0 1\nstep 0 12 none 0 0\n"
+    ++ codes "step 0 12 publish 0 0 2 1\nring 0 0\nbase 0\nused 0 0 32\nused 1 1 32\nring 0 1\nbase 0\nend\n"

@@ -21,7 +21,7 @@ use Rattle.tap_world.specs.Setup.{frame_of}
 use Rattle.tap_legal.specs.Numbered.{AnswerAt, Asked, EntryAt, OpAt, PhaseAt, same_told}
 use Rattle.tap_legal.specs.Same.{is_bad, same_refusal}
 use Rattle.tap_legal.specs.Case.{Case, fails_as, fails_each, fails_missing, fails_order, of_answer}
-use Rattle.tap_legal.specs.Lookups.{entry_named, is_below_own, is_learning, newest_before, newest_of, ops_of, seen_before, some_version, table_at}
+use Rattle.tap_legal.specs.Lookups.{entry_named, has_learnt, is_below_own, newest_before, newest_of, ops_of, seen_before, some_version, table_at}
 
 -- ---- the commands
 
@@ -144,7 +144,7 @@ is_answer c a (Some (command.Send name hdr bytes)) =
 is_answer c a (Some (command.Read file room)) =
     fits_front (steer.shape_of (table_at c a.seen) file) a.answer (λ front. fits_read c a file room front a.answer)
 is_answer c a (Some (command.Write file bytes)) =
-    if list_any (λ (o : OpAt). is_learning o.op) (ops_of c a.told.command)
+    if has_learnt c a.told.command
     then some_version (seen_before c a.told) a.seen (fits_write_at c file bytes a.answer)
     else fits_write_at c file bytes a.answer a.seen
 is_answer c a other = true

@@ -8,6 +8,7 @@ use Rattle.scen_words.specs.declared.command.Command.{Command}
 use Rattle.scen_words.specs.declared.command.Command.TheVariants as command
 use Rattle.tap_trace.specs.declared.answer.Answer.{Answer}
 use Rattle.tap_trace.specs.declared.answer.Answer.TheVariants as answer
+use Rattle.tap_world.specs.World.{name_of}
 use Rattle.tap_world.specs.Frames.{bad_in, sent_bytes, sent_front}
 use Rattle.tap_ledger.specs.declared.fate.Fate.{Fate}
 use Rattle.tap_ledger.specs.declared.fate.Fate.TheVariants as fate
@@ -21,10 +22,6 @@ use Rattle.tap_legal.specs.Lookups.{asked_at, same_name}
 use Rattle.tap_legal.specs.Takes.{copied, copies_of, has_guest, readers, was_read}
 
 -- ---- names
-
--- the only frame of a command
-abbrev pub only_name : Told → Name
-only_name t = record { actor = t.actor; turn = t.command; part = 0 }
 
 -- a command sends a frame that is accepted
 abbrev pub is_accepted : Command → Bool
@@ -46,12 +43,13 @@ is_drop other = false
 abbrev pub entries_named : Case → Name → List EntryAt
 entries_named c n = filter (λ (e : EntryAt). same_name e.at.name n) c.entries
 
--- Each accepted frame has exactly one of: a `drop`, a `host`, an entry.
+-- Each accepted frame has exactly one of: a `drop`, a `host` or `got`, an entry. No entry is of a frame that was got,
+-- since each is of one that was sent.
 abbrev pub has_one_fate : Case → AnswerAt → Option Command → Bool
 has_one_fate c a (Some (command.Send name hdr bytes)) =
     not (is_accepted (command.Send name hdr bytes))
-    || (if is_drop a.answer then 1 else 0) + length (entries_named c (only_name a.told)) == 1
-has_one_fate c a (Some (command.Write file bytes)) = length (entries_named c (only_name a.told)) == 0
+    || (if is_drop a.answer then 1 else 0) + length (entries_named c (name_of a.told.actor a.told.command)) == 1
+has_one_fate c a (Some (command.Write file bytes)) = length (entries_named c (name_of a.told.actor a.told.command)) == 0
 has_one_fate c a other = true
 
 -- ---- no other name
@@ -107,14 +105,15 @@ is_packet other = false
 abbrev pub packet_entries : Case → ℕ → List EntryAt
 packet_entries c file = filter (λ (e : EntryAt). e.file == file && is_packet e.at.fate) c.entries
 
--- Packets of all receive turns on a file are its `guest` and `overrun` entries.
-abbrev pub is_entry_of : List EntryAt → Packet → Bool
-is_entry_of es p = option_map_or (λ name. list_any (λ (e : EntryAt). same_name e.at.name name) es) p.name true
+-- a copied frame is among these entries
+abbrev pub is_among : List EntryAt → Packet → Bool
+is_among es p = option_map_or (λ name. list_any (λ (e : EntryAt). same_name e.at.name name) es) p.name true
 
+-- Packets of all receive turns on a file are its `guest` and `overrun` entries.
 abbrev pub has_packets : Case → Replays → FileAt → Bool
 has_packets c rs f =
     let ps : List Packet = packets_of c f.part.file rs in
-    length (packet_entries c f.part.file) == length ps && list_all (is_entry_of (packet_entries c f.part.file)) ps
+    length (packet_entries c f.part.file) == length ps && list_all (is_among (packet_entries c f.part.file)) ps
 
 abbrev pub file_packets_fail : Case → Replays → FileAt → List ℕ
 file_packets_fail c rs f = packets_fail (packet_entries c f.part.file) (packets_of c f.part.file rs)

@@ -10,17 +10,14 @@ use Rattle.tap_trace.specs.declared.answer.Answer.{Answer}
 use Rattle.tap_trace.specs.declared.answer.Answer.TheVariants as answer
 use Rattle.tap_legal.specs.Numbered.{AnswerAt, Asked, EntryAt, OpAt, Told}
 use Rattle.tap_legal.specs.Case.{Case, fails_each, of_answer}
-use Rattle.tap_legal.specs.Lookups.{asked_at, claimed_of, freed_of, is_above_before, is_below_later, is_below_own, newest_of, put_in, some_version, table_at}
+use Rattle.tap_legal.specs.LegalAnswers.{at_some}
+use Rattle.tap_legal.specs.Lookups.{asked_at, claimed_of, freed_of, is_above_before, is_at_most_later, put_in, table_at}
 use Rattle.tap_legal.specs.Takes.{was_taken_before}
 
 -- Either k - d is the capacity of the file at a version from SEEN on, of the phase, and below the next one that this
 -- actor publishes;
-abbrev pub is_capacity : Case → ℕ → ℕ → ℕ → ℕ → Bool
-is_capacity c file k d version = k == d + capacity_of (table_at c version) file
-
 abbrev pub had_capacity : Case → AnswerAt → ℕ → ℕ → ℕ → Bool
-had_capacity c a file k d =
-    some_version a.seen (newest_of c a.told.phase) (λ v. is_below_own c a.told v && is_capacity c file k d v)
+had_capacity c a file k d = at_some c a (λ t. k == d + capacity_of t file)
 
 -- or another actor of the phase resizes the file above SEEN, and k - d is above the new capacity and at most the one
 -- before it.
@@ -43,7 +40,7 @@ abbrev pub fits_claimed : Case → AnswerAt → ℕ → ℕ → Bool
 fits_claimed c a file k =
     nat_le k (claimed_of c file)
     && is_above_before (put_in file) a.told k c.answers
-    && is_below_later (put_in file) a.told k c.answers
+    && is_at_most_later (put_in file) a.told k c.answers
 
 -- d is at most FREED, and above the place of each entry that a command before this one read, copied to a guest or
 -- purged.

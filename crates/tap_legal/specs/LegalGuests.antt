@@ -17,11 +17,10 @@ use Rattle.tap_world.specs.Project.{ring_parts}
 use Rattle.tap_legal.specs.Numbered.{AnswerAt, Asked, EntryAt, GuestAt, RingAt, StepAt}
 use Rattle.tap_legal.specs.Codes.{same_answer}
 use Rattle.tap_legal.specs.Case.{Case, fails_as, fails_each, fails_missing, fails_order, of_answer, of_step}
-use Rattle.tap_legal.specs.Lookups.{is_before}
+use Rattle.tap_legal.specs.Lookups.{is_before, told_of}
 use Rattle.tap_legal.specs.Replay.{Replay, vhost_named}
 use Rattle.tap_legal.specs.Replays.{Replays, headers_of, is_whole}
 use Rattle.tap_legal.specs.Served.{serves}
-use Rattle.tap_legal.specs.Takes.{told_of_step}
 
 -- ---- guests and steps
 
@@ -33,9 +32,10 @@ is_guest g l = l.guest == g.0
 abbrev pub steps_follow : Case → StepAt → StepAt → Bool
 steps_follow c s t =
     not (s.guest == t.guest)
-    || option_map_or (λ a. option_map_or (λ b. not (is_before b a)) (told_of_step c t) true) (told_of_step c s) true
+    || option_map_or (λ a. option_map_or (λ b. not (is_before b a)) (told_of c t.at.command) true) (told_of c s.at.command) true
 
--- Each command that has steps has all of them. The ring of a command that has none isn't there, which is its answer.
+-- Each command on a guest has exactly its steps: none is missing here, and in the replay none is another. One that names
+-- a ring which isn't there has none.
 abbrev pub ring_named : Command → Option ℕ
 ring_named (command.VNum vhost ring n) = Some ring
 ring_named (command.VBase vhost ring n) = Some ring

@@ -13,8 +13,8 @@ use Rattle.tap_world.specs.ByNumber.{numbered}
 use Rattle.tap_world.specs.Setup.{Declared}
 use Rattle.tap_legal.specs.Numbered.{AnswerAt, Asked, EntryAt, FileAt, StepAt, Told}
 use Rattle.tap_legal.specs.Case.{Case, fails_as, fails_each, fails_order, of_answer, of_entry, of_file, of_step}
-use Rattle.tap_legal.specs.Lookups.{answer_of, claimed_of, declared, ending_of, entry_at, entry_named, freed_of, is_before, part_of, put_in, same_name, table_at, taken_from, told_of_name}
-use Rattle.tap_legal.specs.Takes.{Resized, copied, cuts_of, resizes_of, told_of_step, waits, was_cut, was_purged, was_read}
+use Rattle.tap_legal.specs.Lookups.{answer_of, claimed_of, declared, ending_of, entry_at, entry_named, freed_of, is_before, part_of, put_in, same_name, table_at, taken_from, told_of}
+use Rattle.tap_legal.specs.Takes.{Resized, copied, cuts_of, resizes_of, waits, was_cut, was_purged, was_read}
 
 -- ---- files and entries
 
@@ -65,8 +65,8 @@ waiting_last d e = not (d.file == e.file) || not (waits d.at.fate) || waits e.at
 -- ---- CLAIMED and FREED
 
 -- how many entries of a file are out or cut
-abbrev pub gone_in : FileAt → ℕ
-gone_in f = length (filter (λ (l : PlaceLine). not (waits l.fate)) f.part.lines)
+abbrev pub left_in : FileAt → ℕ
+left_in f = length (filter (λ (l : PlaceLine). not (waits l.fate)) f.part.lines)
 
 -- CLAIMED is first plus the number of entries. FREED is at most CLAIMED, at least CLAIMED minus the file's last
 -- capacity, and first plus the entries out and cut plus 0 to 64.
@@ -75,8 +75,8 @@ numbers_fit c f d =
     f.part.claimed == d.first + length f.part.lines
     && nat_le f.part.freed f.part.claimed
     && nat_le f.part.claimed (f.part.freed + capacity_of (table_at c (length c.ops)) f.part.file)
-    && nat_le (d.first + gone_in f) f.part.freed
-    && nat_le f.part.freed (d.first + gone_in f + 64)
+    && nat_le (d.first + left_in f) f.part.freed
+    && nat_le f.part.freed (d.first + left_in f + 64)
 
 abbrev pub has_numbers : Case → FileAt → Bool
 has_numbers c f = option_map_or (numbers_fit c f) (declared c f.part.file) true
@@ -85,7 +85,7 @@ has_numbers c f = option_map_or (numbers_fit c f) (declared c f.part.file) true
 
 -- No read and no receive copy is of a command before the one that placed its entry.
 abbrev pub is_after_placing : Case → Told → EntryAt → Bool
-is_after_placing c t e = option_map_or (λ b. not (is_before t b)) (told_of_name c e.at.name) true
+is_after_placing c t e = option_map_or (λ b. not (is_before t b)) (told_of c e.at.name.turn) true
 
 -- Each `read` is the entry at its place, with fate `read`.
 abbrev pub is_read_entry : Case → Told → Name → EntryAt → Bool
@@ -99,7 +99,7 @@ reads_entry c a asked other = true
 abbrev pub copies_later : Case → StepAt → Bool
 copies_later c s =
     option_map_or
-    (λ name. option_map_or (λ e. option_map_or (λ t. is_after_placing c t e) (told_of_step c s) true)
+    (λ name. option_map_or (λ e. option_map_or (λ t. is_after_placing c t e) (told_of c s.at.command) true)
     (entry_named c name) true)
     (copied s.at.kind) true
 
@@ -120,8 +120,8 @@ are_cut c file r =
     length r.1 == r.0.cut
     && not (list_any (λ p. option_map_or (λ (e : EntryAt). not (was_cut e.at.fate)) (entry_at c file p) true) r.1)
 
-abbrev pub is_cut_once : Case → EntryAt → Bool
-is_cut_once c e =
+abbrev pub is_among_cut : Case → EntryAt → Bool
+is_among_cut c e =
     not (was_cut e.at.fate) || list_any (λ r. list_any (λ p. p == e.at.place) r.1) (cuts_of c e.file)
 
 -- another actor of its phase may take frames
@@ -177,5 +177,5 @@ c_fails c =
     ++ fails_each of_answer (λ a. reads_entry c a a.asked a.answer) c.answers
     ++ fails_each of_step (copies_later c) c.steps
     ++ flat_map (λ file. fails_order of_answer (rises (taken_from file)) c.answers) (file_numbers c)
-    ++ fails_each of_entry (fits_epoch c) c.entries ++ fails_each of_entry (is_cut_once c) c.entries
+    ++ fails_each of_entry (fits_epoch c) c.entries ++ fails_each of_entry (is_among_cut c) c.entries
     ++ flat_map (resizes_fail c) (file_numbers c)

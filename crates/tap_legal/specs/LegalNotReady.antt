@@ -10,7 +10,7 @@ use Rattle.tap_trace.specs.declared.turn.TurnText.TheVariants as text
 use Rattle.tap_world.specs.Setup.{Declared}
 use Rattle.tap_legal.specs.Numbered.{AnswerAt, EntryAt, Told}
 use Rattle.tap_legal.specs.Case.{Case, fails_each, of_answer}
-use Rattle.tap_legal.specs.Lookups.{claimed_of, declared, entry_at, is_before, told_of_name}
+use Rattle.tap_legal.specs.Lookups.{claimed_of, declared, entry_at, is_before, told_of}
 use Rattle.tap_legal.specs.Served.{served_by}
 use Rattle.tap_legal.specs.Takes.{is_taken_after, waits}
 
@@ -21,18 +21,18 @@ is_in_line c file place =
 
 abbrev pub is_not_placed : Case → Told → ℕ → ℕ → Bool
 is_not_placed c t file place =
-    option_map_or (λ (e : EntryAt). option_map_or (λ b. not (is_before b t)) (told_of_name c e.at.name) true)
+    option_map_or (λ (e : EntryAt). option_map_or (λ b. not (is_before b t)) (told_of c e.at.name.turn) true)
     (entry_at c file place) true
 
 -- Every entry below it is out or cut, and none of them by a command that this one is before.
-abbrev pub is_gone_below : Case → Told → ℕ → ℕ → EntryAt → Bool
-is_gone_below c t file place e =
+abbrev pub has_left_below : Case → Told → ℕ → ℕ → EntryAt → Bool
+has_left_below c t file place e =
     not (e.file == file && nat_lt e.at.place place) || (not (waits e.at.fate) && not (is_taken_after c t e))
 
 abbrev pub is_not_ready : Case → Told → ℕ → ℕ → Bool
 is_not_ready c t file place =
     is_in_line c file place && is_not_placed c t file place
-    && not (list_any (λ e. not (is_gone_below c t file place e)) c.entries)
+    && not (list_any (λ e. not (has_left_below c t file place e)) c.entries)
 
 abbrev pub fits_again : Case → AnswerAt → Option Command → Answer → Bool
 fits_again c a (Some (command.Read file room)) (answer.Again place) = is_not_ready c a.told file place

@@ -19,12 +19,13 @@ use Rattle.tap_trace.specs.declared.causes.VhostText.TheVariants as text
 use Rattle.tap_world.specs.Causes.{tap_text}
 use Rattle.tap_world.specs.Frames.{Front, bad_in, ether_in}
 use Rattle.tap_world.specs.Setup.{op_of}
-use Rattle.tap_world.specs.StepBackend.{back_refusal}
+use Rattle.tap_world.specs.StepBackend.{back_refusal, side_of}
 use Rattle.tap_legal.specs.Numbered.{AnswerAt, Asked, OpAt}
 use Rattle.tap_legal.specs.Same.{same_op, same_refusal}
 use Rattle.tap_legal.specs.Case.{Case, fails_each, fails_order, of_answer, of_op}
+use Rattle.tap_legal.specs.LegalAnswers.{fits_write_at}
 use Rattle.tap_legal.specs.Replays.{Replays, flows_of, was_replayed}
-use Rattle.tap_legal.specs.Lookups.{answer_of, asked_at, is_learning, ops_of, own_ops, seen_before, some_version, table_at}
+use Rattle.tap_legal.specs.Lookups.{answer_of, asked_at, has_learnt, is_learning, ops_of, own_ops, seen_before, some_version, table_at}
 use Rattle.tap_legal.specs.Served.{served_by}
 
 -- ---- operations
@@ -38,11 +39,6 @@ fails_versions version (o ∷ os) =
 -- Each operation is lawful at the version before it,
 abbrev pub is_lawful : Case → OpAt → Bool
 is_lawful c o = option_map_or (λ x. is_none (refuse (table_at c (o.at.version - 1)) x)) o.op false
-
--- the side of a ring's backend
-abbrev pub side_of : ℕ → Side
-side_of zero = Rx
-side_of (suc n) = Tx
 
 -- the operation is the command's own: of a table command its operation, of a write a learning of its file, and of a
 -- `backend` its file, or the one that the ring has
@@ -122,10 +118,16 @@ abbrev pub is_host : Answer → Bool
 is_host (answer.Host len fnv) = true
 is_host other = false
 
--- Each learning of a write is of its accepted frame,
+-- Each learning of a write is of its accepted frame, which is the one that its answer tells where that is one at all,
+abbrev pub is_frame_at : Case → AnswerAt → ℕ → List ℕ → ℕ → ℕ → Bool
+is_frame_at c a file bytes h version =
+    is_hash_at c file bytes h version
+    && (fits_write_at c file bytes a.answer version
+    || not (some_version (seen_before c a.told) a.seen (fits_write_at c file bytes a.answer)))
+
 abbrev pub learns_frame : Case → AnswerAt → Option Command → Option Op → Bool
 learns_frame c a (Some (command.Write file bytes)) (Some (op.Learn f h)) =
-    is_host a.answer && some_version (seen_before c a.told) a.seen (is_hash_at c file bytes h)
+    is_host a.answer && some_version (seen_before c a.told) a.seen (is_frame_at c a file bytes h)
 learns_frame c a asked x = true
 
 abbrev pub is_of_frame : Case → OpAt → Bool
@@ -143,7 +145,7 @@ is_other_frame c o p =
 -- and lacks one only where it doesn't at such a version.
 abbrev pub may_learn : Case → AnswerAt → Option Command → Bool
 may_learn c a (Some (command.Write file bytes)) =
-    let learnt : Bool = list_any (λ (o : OpAt). is_learning o.op) (ops_of c a.told.command) in
+    let learnt : Bool = has_learnt c a.told.command in
     not (is_host a.answer)
     || some_version (seen_before c a.told) a.seen
     (λ v. if learnt then learns (table_at c v) file else not (learns (table_at c v) file))

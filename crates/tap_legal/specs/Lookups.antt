@@ -36,9 +36,8 @@ is_later_of_actor a b = a.actor == b.actor && is_before a b
 abbrev pub asked_at : Case → ℕ → Option Asked
 asked_at c number = slice_get c.asked number
 
--- the command that sent a frame, or gave it to the host
-abbrev pub told_of_name : Case → Name → Option Told
-told_of_name c n = option_map (λ (a : Asked). a.told) (asked_at c n.turn)
+abbrev pub told_of : Case → ℕ → Option Told
+told_of c number = option_map (λ (a : Asked). a.told) (asked_at c number)
 
 -- the answer of a command: that of its own actor in its own phase
 abbrev pub answer_of : Case → ℕ → Option AnswerAt
@@ -46,10 +45,6 @@ answer_of c number =
     option_and_then (λ (a : Asked). find (λ (x : AnswerAt). same_told x.told a.told) c.answers) (asked_at c number)
 
 -- ---- versions and tables
-
--- the operation of a version
-abbrev pub op_at : Case → ℕ → Option OpAt
-op_at c version = find (λ (o : OpAt). o.at.version == version) c.ops
 
 -- the operations of a command
 abbrev pub ops_of : Case → ℕ → List OpAt
@@ -62,6 +57,10 @@ is_learning other = false
 
 abbrev pub own_ops : Case → ℕ → List OpAt
 own_ops c n = filter (λ (o : OpAt). not (is_learning o.op)) (ops_of c n)
+
+-- a command learnt the flow of a frame
+abbrev pub has_learnt : Case → ℕ → Bool
+has_learnt c n = list_any (λ (o : OpAt). is_learning o.op) (ops_of c n)
 
 -- the table at a version: after as many operations, of which there may be fewer
 abbrev pub table_at : Case → ℕ → Table
@@ -186,7 +185,7 @@ abbrev pub is_above_before : (AnswerAt → Option ℕ) → Told → ℕ → List
 is_above_before place t n as_ =
     not (list_any (λ a. is_before a.told t && option_map_or (λ p. nat_le n p) (place a) false) as_)
 
-abbrev pub is_below_later : (AnswerAt → Option ℕ) → Told → ℕ → List AnswerAt → Bool
-is_below_later place t n as_ =
+abbrev pub is_at_most_later : (AnswerAt → Option ℕ) → Told → ℕ → List AnswerAt → Bool
+is_at_most_later place t n as_ =
     not
     (list_any (λ a. is_later_of_actor t a.told && option_map_or (λ p. nat_lt p n) (place a) false) as_)

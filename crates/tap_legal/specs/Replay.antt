@@ -63,7 +63,7 @@ pub record Packet : Type 0 where
   pub had : ℕ
 
 -- a turn that found a backend: its command, and the size of the vhost's header
-pub record Begun : Type 0 where
+pub record Began : Type 0 where
   pub command : ℕ
   pub header : ℕ
 
@@ -75,7 +75,7 @@ pub record Replay : Type 0 where
   pub under : List Under
   pub packets : List Packet
   pub accepted : List Accepted
-  pub turns : List Begun
+  pub turns : List Began
   pub finished : List ℕ
   pub fails : List ℕ
   pub broken : Bool

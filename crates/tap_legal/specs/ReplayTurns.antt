@@ -32,7 +32,7 @@ use Rattle.tap_world.specs.StepTransmits.{chains_after, tx_over, tx_state}
 use Rattle.tap_legal.specs.Numbered.{AnswerAt, Asked, StepAt}
 use Rattle.tap_legal.specs.Case.{Case}
 use Rattle.tap_legal.specs.Lookups.{answer_of, asked_at}
-use Rattle.tap_legal.specs.Replay.{Accepted, Begun, Packet, Replay, Turning, Under, ahead, answers, broken_at, hand_for, if_step, replay_back, replay_bytes, replay_call}
+use Rattle.tap_legal.specs.Replay.{Accepted, Began, Packet, Replay, Turning, Under, ahead, answers, broken_at, hand_for, if_step, replay_back, replay_bytes, replay_call}
 use Rattle.tap_legal.specs.Replay.Turning.{Receiving, Sending}
 
 -- ---- turns under way
@@ -123,22 +123,17 @@ abbrev pub is_quiet_tx : TxStage → Bool
 is_quiet_tx tx.Give = true
 is_quiet_tx other = false
 
--- a turn that can't go on as its answer says fails there
-abbrev pub fails_at_answer : Case → ℕ → Replay → Replay
-fails_at_answer c command r =
-    option_map_or (λ (a : AnswerAt). broken_at a.line r) (answer_of c command) (broken_at c.end r)
-
 abbrev pub quiet_of : Case → List StepAt → Under → Turning → Vhost → Replay → Replay
 quiet_of c ss u (Receiving t) v r =
     if is_quiet_rx t.stage
     then option_map_or (λ made. rx_left c ss u v (taken u t r) made)
     (rx_step (hand_for c u t ss) (rx_state t v r.memory))
-    (fails_at_answer c u.command r)
+    r
     else r
 quiet_of c ss u (Sending t chains) v r =
     if is_quiet_tx t.stage
     then option_map_or (λ made. tx_left c ss u chains v r made) (tx_step (tx_state t v r.memory))
-    (fails_at_answer c u.command r)
+    r
     else r
 
 -- one of them, where the turn on a ring is before one; there are at most two in a row
@@ -175,7 +170,7 @@ begun c s ss vhost ring v None r =
       command = s.at.command;
       turning = turn_begun ring s.at.command s.at.actor v;
     } in
-    let t : Begun = record { command = s.at.command; header = hdr_of v.settings } in
+    let t : Began = record { command = s.at.command; header = hdr_of v.settings } in
     step_of c s ss u u.turning v (record r { turns = r.turns ++ t ∷ [] })
 
 -- the next step of the command's turn, or its first one, where no other turn is under way on the ring

@@ -8,9 +8,9 @@ use Rattle.tap_world.specs.ByNumber.{numbered}
 use Rattle.tap_world.specs.Guests.{Vhost, new_vhost}
 use Rattle.tap_legal.specs.Numbered.{Asked, OpAt, StepAt}
 use Rattle.tap_legal.specs.Case.{Case}
-use Rattle.tap_legal.specs.Replay.{Accepted, Begun, Packet, Replay}
+use Rattle.tap_legal.specs.Replay.{Accepted, Began, Packet, Replay}
 use Rattle.tap_legal.specs.ReplayTurns.{replay}
-use Rattle.tap_legal.specs.Served.{gives, setter_of}
+use Rattle.tap_legal.specs.Served.{makes_worker, setter_of}
 
 -- ---- the replays
 
@@ -50,8 +50,8 @@ is_whole rs = not (list_any (λ (r : ℕ × Replay). r.1.broken) rs)
 -- the header's size of a turn
 abbrev pub headers_of : ℕ → Replays → List ℕ
 headers_of command rs =
-    flat_map (λ (r : ℕ × Replay). map (λ (t : Begun). t.header)
-    (filter (λ (t : Begun). t.command == command) r.1.turns)) rs
+    flat_map (λ (r : ℕ × Replay). map (λ (t : Began). t.header)
+    (filter (λ (t : Began). t.command == command) r.1.turns)) rs
 
 -- the turn was replayed to its end
 abbrev pub was_replayed : ℕ → Replays → Bool
@@ -73,4 +73,4 @@ packets_under c rs command = flat_map (λ (r : ℕ × Replay). filter (is_set_by
 -- the packets on a file: it has one worker at a time, so they follow the operations that made one of a vhost
 abbrev pub packets_of : Case → ℕ → Replays → List Packet
 packets_of c file rs =
-    flat_map (λ (o : OpAt). packets_under c rs o.at.command) (filter (λ (o : OpAt). gives file o.op) c.ops)
+    flat_map (λ (o : OpAt). packets_under c rs o.at.command) (filter (λ (o : OpAt). makes_worker file o.op) c.ops)

@@ -13,7 +13,7 @@ use Rattle.tap_legal.specs.Numbered.{Asked, StepAt}
 use Rattle.tap_legal.specs.Case.{Case}
 use Rattle.tap_legal.specs.Lookups.{asked_at}
 
--- a step sets or unsets the backend of this ring
+-- a step has B 1: it sets or unsets the backend of this ring
 abbrev pub is_set_on : ℕ × ℕ → Kind → Bool
 is_set_on ring (kind.Backend v r set) = v == ring.0 && r == ring.1 && set
 is_set_on ring other = false
@@ -45,6 +45,6 @@ abbrev pub serves : Case → ℕ → ℕ → Bool
 serves c file command = option_map_or (λ f. f == file) (served_by c command) false
 
 -- an operation makes a vhost's receive ring the worker of a file
-abbrev pub gives : ℕ → Option Op → Bool
-gives file (Some (op.Back f Rx (Some vhost))) = f == file
-gives file other = false
+abbrev pub makes_worker : ℕ → Option Op → Bool
+makes_worker file (Some (op.Back f Rx (Some vhost))) = f == file
+makes_worker file other = false

@@ -16,7 +16,7 @@ use Rattle.tap_trace.specs.declared.kind.Kind.TheVariants as kind
 use Rattle.tap_world.specs.Then.{◌>>=◌, only_if}
 use Rattle.tap_legal.specs.Numbered.{AnswerAt, Asked, EntryAt, OpAt, StepAt, Told}
 use Rattle.tap_legal.specs.Case.{Case}
-use Rattle.tap_legal.specs.Lookups.{answer_of, asked_at, ending_of, is_before, same_name, taken_from}
+use Rattle.tap_legal.specs.Lookups.{answer_of, ending_of, is_before, same_name, taken_from, told_of}
 
 -- ---- fates
 
@@ -42,7 +42,7 @@ was_cut other = false
 
 -- ---- resizes
 
--- a `resize` line: the answer before it, its version, its file and capacity, CLAIMED, FREED and CUT
+-- a `resize` line: its command, the version and capacity of its operation, CLAIMED, FREED and CUT
 pub record Resized : Type 0 where
   pub line : ℕ
   pub told : Told
@@ -108,24 +108,17 @@ abbrev pub copied : Kind → Option Name
 copied (kind.Copy vhost ring position name) = if ring == 0 then name else None
 copied other = None
 
--- the command of a step
-abbrev pub told_of_step : Case → StepAt → Option Told
-told_of_step c s = option_map (λ (a : Asked). a.told) (asked_at c s.at.command)
-
 abbrev pub copies_of : Case → Name → List StepAt
 copies_of c name = filter (λ (s : StepAt). option_map_or (same_name name) (copied s.at.kind) false) c.steps
 
 abbrev pub copiers : Case → EntryAt → List Told
-copiers c e = filter_map (told_of_step c) (copies_of c e.at.name)
+copiers c e = filter_map (λ (s : StepAt). told_of c s.at.command) (copies_of c e.at.name)
 
 -- the command whose operation ended its epoch, where it was purged
-abbrev pub told_of_op : Case → OpAt → Option Told
-told_of_op c o = option_map (λ (a : Asked). a.told) (asked_at c o.at.command)
-
 abbrev pub purgers : Case → EntryAt → List Told
 purgers c e =
     if was_purged e.at.fate
-    then option_to_list (ending_of c e.file e.at.epoch >>= told_of_op c)
+    then option_to_list (ending_of c e.file e.at.epoch >>= λ o. told_of c o.at.command)
     else []
 
 -- the resize that cut it
