@@ -48,3 +48,6 @@ mod TableKept
 mod TableEvents
 mod Backers
 mod BackerEvents
+mod FreshTurns
+mod FreshRows
+mod FreshKept

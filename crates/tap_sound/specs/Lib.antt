@@ -7,3 +7,4 @@ pub mod Names
 pub mod Room
 pub mod Hand
 pub mod Tabled
+pub mod Fresh
