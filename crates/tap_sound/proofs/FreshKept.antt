@@ -1,11 +1,10 @@
 -- The names of events are new in every world that a run reaches.
-use Rattle.std.proofs.Common.{◌≡◌, ◌≢◌, ◌⊎◌, ℕ, zero, suc, ◌+◌, ◌≤◌, ◌<◌, List, [], ◌∷◌, ◌++◌, length, map, filter, take, Bool, true, false, Option, Some, None, inl, inr, ⊎_elim, refl, sym, ap, ◌∙◌, subst, arith}
+use Rattle.std.proofs.Common.{◌≡◌, ◌≢◌, ◌⊎◌, ℕ, zero, suc, ◌+◌, ◌≤◌, ◌<◌, List, [], ◌∷◌, length, map, filter, take, Bool, true, false, Option, Some, inl, inr, ⊎_elim, refl, sym, ap, ◌∙◌, subst, arith}
 use Rattle.std.specs.Prelude.{if◌then◌else◌, ◌==◌, ◌&&◌, drop, slice_get}
 use Rattle.std.specs.Option.{option_map_or}
 use Rattle.std.proofs.Common.{eq-eqb}
 use Rattle.std.proofs.lemmas.Bool.Decides.{eqb_tells}
 use Rattle.tap_frame.specs.declared.name.Name.{Name}
-use Rattle.tap_frame.specs.Frame.{FrameValue}
 use Rattle.vring_turns.specs.TxTurn.{TxTurn}
 use Rattle.scen_text.specs.declared.scenario.Line.{Line}
 use Rattle.scen_text.specs.declared.scenario.Phase.{Phase}
@@ -19,8 +18,7 @@ use Rattle.tap_world.specs.World.{Actor, Doing, World, current, newest}
 use Rattle.tap_world.specs.World.Doing.{Begun, Given, Hosts, Routed, Teaches, Transmits}
 use Rattle.tap_world.specs.Effect.{Effect, Ending, Onward, actor_after, ended}
 use Rattle.tap_world.specs.Effect.Onward.{Ends, Goes, Stays}
-use Rattle.tap_world.specs.Scripts.{is_kind, next_kind}
-use Rattle.tap_world.specs.Step.{effect, row, row_of, step}
+use Rattle.tap_world.specs.Step.{effect, row_of, step}
 use Rattle.tap_world.specs.Stands.{are_new, if_new, names_of, same_name, times, times_in}
 use Rattle.tap_world.specs.SoundActors.{CanBe, can_be}
 use Rattle.tap_world.specs.Sound.{EachActor}
@@ -34,7 +32,7 @@ use Rattle.tap_sound.proofs.Reached.{new_stands}
 use Rattle.tap_sound.proofs.Taken.{IsEnding, IsStep, both, if_some, step_is, when_settled}
 use Rattle.tap_sound.proofs.NamesTimes.{effect_times}
 use Rattle.tap_sound.proofs.NamesKept.{none_placed}
-use Rattle.tap_sound.proofs.FreshRows.{Fresh, FreshAfter, FreshFrame, FreshTurn, OneName, Tells, part, row_is_fresh}
+use Rattle.tap_sound.proofs.FreshRows.{Fresh, FreshAfter, FreshTurn, OneName, Tells, part, row_is_fresh}
 
 abbrev Free : World → Name → Type 0
 Free w m = times w m ≡ 0

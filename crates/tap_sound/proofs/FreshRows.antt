@@ -1,11 +1,10 @@
 -- The names of every row of the table of events: none, or the next one of its command.
-use Rattle.std.proofs.Common.{◌≡◌, ◌⊎◌, ℕ, ◌+◌, List, [], ◌∷◌, ◌++◌, Bool, true, false, Option, Some, None, inl, inr, ⊎_elim, refl, sym, ap, ◌∙◌, subst, true≢false}
+use Rattle.std.proofs.Common.{◌≡◌, ◌⊎◌, ℕ, ◌+◌, List, [], ◌∷◌, Bool, true, false, Option, Some, None, inl, inr, ⊎_elim, refl, sym, ap, ◌∙◌, subst, true≢false}
 use Rattle.std.proofs.Common.{◌≤◌, ◌<◌, arith}
 use Rattle.std.proofs.lemmas.Bool.Decides.{eqb_tells}
-use Rattle.std.specs.Prelude.{if◌then◌else◌, ◌==◌, ◌&&◌, ◌||◌, is_none, not, nat_lt, slice_get, length, option_map}
-use Rattle.std.specs.List.{AllByRecursion}
+use Rattle.std.specs.Prelude.{if◌then◌else◌, ◌==◌, ◌&&◌, ◌||◌, is_none, not, nat_lt, slice_get}
 use Rattle.std.specs.Option.{option_map_or}
-use Rattle.guest_mem.specs.Memory.{Contents, first_bad}
+use Rattle.guest_mem.specs.Memory.{Contents}
 use Rattle.tap_flow_key.specs.FlowKey.{hash}
 use Rattle.tap_frame.specs.declared.name.Name.{Name}
 use Rattle.tap_frame.specs.declared.reading.BadFrame.{BadFrame}
@@ -24,14 +23,8 @@ use Rattle.tap_steer.specs.Select as steer
 use Rattle.tap_steer.specs.Select.{learns}
 use Rattle.tap_steer.specs.Table.{Table, file_at, is_set}
 use Rattle.vhost_dev.specs.declared.error.VhostErr.{VhostErr}
-use Rattle.vhost_dev.specs.Refusals.{addr_refusal, base_refusal, features_refusal, num_refusal, number_refusal}
+use Rattle.vhost_dev.specs.Refusals.{number_refusal}
 use Rattle.vhost_dev.specs.Settings.{hdr_of, ring_at}
-use Rattle.vring_drive.specs.declared.error.DriveErr.{DriveErr}
-use Rattle.vring_drive.specs.declared.error.PostErr.{PostErr}
-use Rattle.vring_drive.specs.Area.{drive_refusal}
-use Rattle.vring_drive.specs.Books.{Books, first_books}
-use Rattle.vring_drive.specs.Harvests.{harvested}
-use Rattle.vring_drive.specs.Posts.{post_in_refusal, post_out_refusal}
 use Rattle.vring_turns.specs.declared.end.End.{End}
 use Rattle.vring_turns.specs.declared.stage.TxStage.{TxStage}
 use Rattle.vring_turns.specs.declared.stage.TxStage.TheVariants as tx
@@ -41,10 +34,7 @@ use Rattle.scen_words.specs.declared.command.Command.{Command}
 use Rattle.scen_words.specs.declared.command.Command.TheVariants as command
 use Rattle.tap_trace.specs.declared.answer.Answer.{Answer}
 use Rattle.tap_trace.specs.declared.answer.Answer.TheVariants as answer
-use Rattle.tap_trace.specs.declared.causes.DriveText.TheVariants as drive_text
 use Rattle.tap_trace.specs.declared.causes.TapText.{TapText}
-use Rattle.tap_trace.specs.declared.kind.Kind.{Kind}
-use Rattle.tap_trace.specs.declared.kind.Kind.TheVariants as kind
 use Rattle.tap_trace.specs.declared.turn.ChainText.{ChainText}
 use Rattle.tap_world.specs.declared.event.EventKind.{EventKind}
 use Rattle.tap_world.specs.declared.event.EventKind.TheVariants as event
@@ -56,20 +46,19 @@ use Rattle.tap_world.specs.Setup.{Setup, op_of}
 use Rattle.tap_world.specs.Line.{File, first_that, front_place, in_batch, in_ring, last_that}
 use Rattle.tap_world.specs.LineSteps.{changed, ready_front}
 use Rattle.tap_world.specs.LineSteps.Change.{Takes}
-use Rattle.tap_world.specs.Guests.{Vhost, driver_of, is_free, is_ring, turn_of}
+use Rattle.tap_world.specs.Guests.{Vhost, is_free, is_ring, turn_of}
 use Rattle.tap_world.specs.World.{Actor, Doing, World, name_of, newest, table}
 use Rattle.tap_world.specs.World.Doing.{Backed, Backs, Begun, Changes, Disowned, Given, Hosts, Learns, Opened, Opens, Owns, Placed, Purges, Reads, Receives, Released, Resizes, Routed, Shrinks, Teaches, Transmits, Unbacked, Withdrawn, Withdraws}
 use Rattle.tap_world.specs.Effect.{Effect, Onward, only}
 use Rattle.tap_world.specs.Effect.OnFiles.{NoFile}
 use Rattle.tap_world.specs.Effect.Onward.{Ends, Goes, Stays}
 use Rattle.tap_world.specs.Stands.{names_of, placed_by, times_in}
-use Rattle.tap_world.specs.SoundNames.{accepted_by, accepted_in, awaited, got_in, is_giving}
+use Rattle.tap_world.specs.SoundNames.{is_giving}
 use Rattle.tap_world.specs.Scripts.{is_kind, next_kind, tx_next_kind}
 use Rattle.tap_world.specs.SoundActors.{can_be}
 use Rattle.vring_turns.specs.TxTurn.{tx_next}
 use Rattle.vring_turns.specs.declared.stage.RxStage.{RxStage}
 use Rattle.vring_turns.specs.declared.stage.RxStage.TheVariants as rx
-use Rattle.tap_world.specs.Effect.{OnFiles}
 use Rattle.tap_world.specs.Step as rows
 use Rattle.tap_world.specs.StepBackend as back
 use Rattle.tap_world.specs.StepControl as control

@@ -1,7 +1,6 @@
 -- Which frames a step of a transmit turn accepts, by the number of those before.
-use Rattle.std.proofs.Common.{◌≡◌, ℕ, ◌+◌, List, [], ◌∷◌, Bool, true, false, Option, Some, None, refl, true≢false}
+use Rattle.std.proofs.Common.{◌≡◌, ◌+◌, List, [], ◌∷◌, Bool, true, false, Option, Some, None, refl, true≢false}
 use Rattle.std.specs.Prelude.{if◌then◌else◌, ◌==◌, nat_le, nat_lt}
-use Rattle.guest_mem.specs.Memory.{Contents}
 use Rattle.vring_split.specs.declared.fault.RingFault.{RingFault}
 use Rattle.tap_frame.specs.declared.reading.BadFrame.{BadFrame}
 use Rattle.tap_frame.specs.Frame.{FrameValue}
