@@ -1,41 +1,29 @@
 -- Files have of the table what they should, after each shape of change.
-use Rattle.std.proofs.Common.{◌≡◌, ◌≢◌, ◌⊎◌, ℕ, ◌+◌, ◌<◌, List, [], ◌∷◌, ◌++◌, length, map, set, Bool, true, false, Option, Some, None, inl, inr, ⊎_elim, refl, sym, ap, ◌∙◌, subst, true≢false, arith}
-use Rattle.std.specs.Prelude.{if◌then◌else◌, ◌==◌, ◌&&◌, ◌-◌, is_none, not, slice_get}
-use Rattle.std.proofs.lemmas.Bool.Decides.{eqb_tells}
-use Rattle.std.proofs.lemmas.Bool.{cases_lt}
-use Rattle.tap_ledger.specs.declared.side.Side.{Side}
-use Rattle.tap_ledger.specs.declared.side.Side.TheVariants.{Rx, Tx}
-use Rattle.tap_steer.specs.declared.files.Attachment.{Attachment}
-use Rattle.tap_steer.specs.declared.files.Attachment.TheVariants.{Disabled, Enabled, Unattached}
+use Rattle.std.proofs.Common.{◌≡◌, ◌≢◌, ◌⊎◌, ℕ, ◌+◌, ◌<◌, List, length, Bool, true, false, Option, Some, None, inl, inr, ⊎_elim, refl, sym, ap, ◌∙◌, subst}
+use Rattle.std.specs.Prelude.{if◌then◌else◌, ◌-◌, not, slice_get}
 use Rattle.tap_steer.specs.declared.files.File as table_files
-use Rattle.tap_steer.specs.declared.operation.Op.{Op}
-use Rattle.tap_steer.specs.declared.operation.Op.TheVariants as op
-use Rattle.tap_steer.specs.declared.operation.TheConstants.{IFF_ATTACH_QUEUE}
-use Rattle.tap_steer.specs.Table.{Table, file_at, is_set}
-use Rattle.tap_steer.specs.Rules.{backer, refuse}
-use Rattle.tap_steer.specs.After.{after, after_all, attached_file, backed, resized, standing}
+use Rattle.tap_steer.specs.Table.{Table}
+use Rattle.tap_steer.specs.Rules.{backer}
 use Rattle.scen_words.specs.declared.command.Command.{Command}
 use Rattle.scen_words.specs.declared.command.Command.TheVariants as command
-use Rattle.tap_world.specs.ByNumber.{at, with_at}
-use Rattle.tap_world.specs.Setup.{Setup, op_of}
+use Rattle.tap_world.specs.ByNumber.{at}
 use Rattle.tap_world.specs.Line.{File, first_that, in_batch, in_ring, last_that}
 use Rattle.tap_world.specs.Line.Standing.{Batched, Cut, Out}
 use Rattle.tap_world.specs.Line.{Standing}
 use Rattle.tap_world.specs.LineSteps.{Change, changed, may_leave, moves_to, ready_front}
 use Rattle.tap_world.specs.LineSteps.Change.{Claims, Cuts, Leaves, Moves, Owned, Puts, PutsBack, Reopens, Shuts, Sizes, Takes}
-use Rattle.tap_world.specs.Guests.{is_ring}
 use Rattle.tap_world.specs.World.{Doing}
-use Rattle.tap_world.specs.World.Doing.{Backed, Backs, Begun, Changes, Disowned, Opened, Opens, Owns, Purges, Released, Resizes, Shrinks, Unbacked, Withdrawn, Withdraws}
+use Rattle.tap_world.specs.World.Doing.{Backed, Backs, Begun, Changes, Disowned, Opened, Opens, Owns, Purges, Resizes, Shrinks, Unbacked, Withdrawn, Withdraws}
 use Rattle.tap_world.specs.Effect.{OnFiles, files_after}
 use Rattle.tap_world.specs.Effect.OnFiles.{NoFile, OnFile}
-use Rattle.tap_world.specs.StepTable.{course, is_enabled}
+use Rattle.tap_world.specs.StepTable.{is_enabled}
 use Rattle.tap_world.specs.StepBackend.{side_of}
 use Rattle.tap_world.specs.SoundTable.{Agreed, IsAsFound, asked_by, expected, has_of, of_table}
 use Rattle.tap_sound.proofs.Kit.{only_some, some_same, then_some}
 use Rattle.tap_sound.proofs.Claims.{with_at_inv}
 use Rattle.tap_sound.proofs.Shapes as shapes
-use Rattle.tap_sound.proofs.TableFiles.{at_files, attach_finds, attach_one, back_one, detach_finds, detach_one, enabled_is, enabled_there, one_here, one_there, resize_one, set_iff_one, shut_by, shut_one}
-use Rattle.tap_sound.proofs.Taken.{both, if_some}
+use Rattle.tap_sound.proofs.TableFiles.{at_files}
+use Rattle.tap_sound.proofs.Taken.{if_some}
 use Rattle.tap_sound.proofs.Turned.{itself, others}
 
 -- ---- what a change of a file keeps

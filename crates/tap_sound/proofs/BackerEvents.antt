@@ -1,13 +1,11 @@
 -- Every event keeps which files are backends of rings.
-use Rattle.std.proofs.Common.{◌≡◌, ◌⊎◌, ℕ, ◌+◌, List, [], ◌∷◌, ◌++◌, map, Bool, true, false, Option, Some, None, inl, inr, ⊎_elim, refl, sym, ap, ◌∙◌, subst, true≢false, ◌<◌, length}
-use Rattle.std.specs.Prelude.{if◌then◌else◌, ◌==◌, ◌||◌, is_none, is_some, not, option_map, drop, ◌&&◌}
+use Rattle.std.proofs.Common.{◌≡◌, ℕ, ◌+◌, List, [], ◌∷◌, Bool, true, false, Option, Some, None, inl, inr, refl, sym, ap, ◌∙◌, subst, true≢false, ◌<◌, length}
+use Rattle.std.specs.Prelude.{if◌then◌else◌, ◌==◌, is_none, is_some, not, ◌&&◌}
 use Rattle.guest_mem.specs.Memory.{Contents}
-use Rattle.tap_steer.specs.declared.error.TapErr.{TapErr}
 use Rattle.tap_steer.specs.declared.operation.Op.{Op}
-use Rattle.tap_steer.specs.declared.operation.TheConstants.{IFF_ATTACH_QUEUE}
-use Rattle.tap_steer.specs.Table.{Table, file_at, is_set}
-use Rattle.tap_steer.specs.Rules.{backer, refuse}
-use Rattle.tap_steer.specs.After.{after, after_all, back}
+use Rattle.tap_steer.specs.Table.{Table, file_at}
+use Rattle.tap_steer.specs.Rules.{backer}
+use Rattle.tap_steer.specs.After.{after_all}
 use Rattle.vhost_dev.specs.declared.error.VhostErr.{VhostErr}
 use Rattle.vhost_dev.specs.Refusals.{number_refusal, ready_refusal}
 use Rattle.vhost_dev.specs.Settings.{ring_at}
@@ -15,37 +13,31 @@ use Rattle.scen_words.specs.declared.command.Command.{Command}
 use Rattle.tap_trace.specs.declared.answer.Answer.{Answer}
 use Rattle.tap_trace.specs.declared.causes.TapText.{TapText}
 use Rattle.tap_world.specs.declared.event.Event.{Event}
-use Rattle.tap_world.specs.Causes.{tap_text}
-use Rattle.tap_world.specs.Setup.{Setup, op_of, opening_table}
+use Rattle.tap_world.specs.Setup.{Setup}
 use Rattle.tap_world.specs.Guests.{Vhost, is_ring, with_turn}
-use Rattle.tap_world.specs.World.{Actor, Doing, Published, World, newest, table}
+use Rattle.tap_world.specs.World.{Doing, World, newest, table}
 use Rattle.tap_world.specs.World.Doing.{Backed, Backs, Begun, Changes, Disowned, Opened, Opens, Owns, Purges, Released, Resizes, Shrinks, Unbacked, Withdrawn, Withdraws}
-use Rattle.tap_world.specs.Effect.{Effect, OnFiles, Onward, files_after, only, ended, OnVhosts, vhosts_after}
-use Rattle.tap_world.specs.Effect.OnFiles.{NoFile, OnFile}
-use Rattle.tap_world.specs.Effect.Onward.{Ends, Goes, Stays}
-use Rattle.tap_world.specs.LineSteps.Change.{Owned, Cuts, Reopens, Shuts, Sizes}
+use Rattle.tap_world.specs.Effect.{Effect, Onward, only, ended, OnVhosts, vhosts_after}
+use Rattle.tap_world.specs.Effect.Onward.{Goes}
 use Rattle.tap_world.specs.Sound.{EachActor, WriterIsHeld, holds}
 use Rattle.tap_world.specs.SoundActors.{can_be}
-use Rattle.tap_world.specs.SoundTable.{Agreed, IsAsFound, asked_by, commanded, expected, of_table, writing, backer_by, is_on, is_rx_side}
-use Rattle.tap_sound.proofs.Kit.{either, some_same, then_some}
-use Rattle.tap_sound.proofs.Agreeing.{Files, Fits, goes_on, reopening, shutting, sizing, steady}
-use Rattle.tap_sound.proofs.Kept.{effect_files, effect_ops}
-use Rattle.tap_sound.proofs.Publishing.{equal, publishing, sets_rx, sets_tx, unsets_rx, unsets_tx, withdrawing}
-use Rattle.tap_sound.proofs.Shapes.{Alike, IsLast, Shape}
-use Rattle.tap_sound.proofs.Shapes.Shape.{Approves, BackApproves, BackDrives, BackPublishes, Calling, Learning, Owning, Publishing, Quiet, Reopening, RxTurning, Shutting, Sizing, Touching, Trims, TxTurning, Withdrawing}
+use Rattle.tap_world.specs.SoundTable.{IsAsFound, commanded, writing, backer_by, is_on, is_rx_side}
+use Rattle.tap_sound.proofs.Kit.{some_same}
+use Rattle.tap_sound.proofs.Shapes.{IsLast, Shape}
+use Rattle.tap_sound.proofs.Shapes.Shape.{Giving, Approves, BackApproves, BackDrives, BackPublishes, Calling, Learning, Owning, Publishing, Quiet, Reopening, RxTurning, Shutting, Sizing, Touching, Trims, TxTurning, Withdrawing}
 use Rattle.tap_sound.proofs.Standing.{answered, first_passed, ring_there}
-use Rattle.tap_sound.proofs.TableFiles.{back_finds, detach_finds, learn_same}
-use Rattle.tap_sound.proofs.Taken.{IsEnding, IsStep, both, when_settled}
+use Rattle.tap_sound.proofs.TableFiles.{learn_same}
+use Rattle.tap_sound.proofs.Taken.{IsStep, both, when_settled}
 use Rattle.tap_sound.proofs.Views.{Is, View, ending_view, view}
 use Rattle.tap_sound.proofs.Views.View.{Aside, Begins, Closes, Within}
 use Rattle.tap_sound.proofs.Writers.{course_is, doing_after, rx_free, rx_holds, tx_free, tx_holds, unset_refusal, last_holds}
 use Rattle.tap_world.specs.Line.{claimed}
-use Rattle.tap_sound.proofs.TableKept.{FitsWorld, alike_view, aside, asked_is, at_view, back_found, back_publishes, begins, closes, course_found, doing_on, drives, files_on, goes_last, goes_within, on_files, ops_on, owns, passes, passes_still, steady_here, into, onto, table_on, within}
+use Rattle.tap_sound.proofs.TableKept.{FitsWorld, alike_view, aside, at_view, begins, closes, doing_on, goes_last, goes_within, ops_on, into, table_on, within}
 use Rattle.std.specs.Option.{option_map_or}
 use Rattle.tap_ledger.specs.declared.side.Side.{Side}
 use Rattle.tap_ledger.specs.declared.side.Side.TheVariants.{Rx, Tx}
 use Rattle.vhost_dev.specs.Calls.{without_backend}
-use Rattle.tap_world.specs.ByNumber.{at, with_at}
+use Rattle.tap_world.specs.ByNumber.{at}
 use Rattle.tap_world.specs.Effect.OnVhosts.{NoVhost, OnVhost}
 use Rattle.tap_sound.proofs.Backers.{FromOld, HaveBackends, SameFiles, Vhosts, back_backs, call_files, files_backers, no_vhost, one_vhost, op_backs, queue_files, same_backs, set_backs, turn_files, unset_backs}
 use Rattle.tap_sound.proofs.Calls.{called_is}
@@ -56,7 +48,6 @@ use Rattle.scen_words.specs.declared.command.Command.TheVariants as command
 use Rattle.tap_world.specs.declared.event.Found.TheVariants as found
 use Rattle.tap_world.specs.StepBackend as back_steps
 use Rattle.tap_world.specs.StepTable as tables
-use Rattle.tap_sound.proofs.Shapes as shapes
 use Rattle.tap_world.specs.StepTurns as rx_turns
 use Rattle.tap_world.specs.StepTransmits as tx_turns
 
@@ -235,3 +226,134 @@ module _ (s : Setup) (w : World) (x : Event) (u : World) (t : IsStep s w x u) wh
       (subst (λ (q : Table). HaveBackends (Backed file) (Some c) q t.between.vhosts) (sym (table_on s w x u t [] (ops_on s w x u t _ eq)))
       (subst (HaveBackends (Backed file) (Some c) (table s w)) (sym (vhosts_on (OnVhost vhost _) (on_vhosts _ eq)))
       (set_backs vhost ring file v m (table s w) w.vhosts at_ k.0 (f k.1).1 (into_backs w (Backs None) (Some c) (table s w) w.vhosts v2.0 h))))
+
+held_is : (w v : World) (d e : Doing) (c : Command) → View w v d e c → holds d ≡ true → Is w d (Some c)
+held_is w v d e c (Aside a b x y) h = absurd (true≢false (sym h ∙ a))
+held_is w v d e c (Begins x y a b) h = absurd (true≢false (sym h ∙ a))
+held_is w v d e c (Within x y a b) h = x
+held_is w v d e c (Closes x y a b) h = x
+
+found_here : (s : Setup) (w v : World) (d e : Doing) (c : Command) → View w v d e c → holds d ≡ true → FitsWorld s w → IsAsFound d (Some c) (table s w)
+found_here s w v d e c view_ hold h = (into w d (Some c) (table s w) w.files (held_is w v d e c view_ hold) h).found
+
+back_held : (w : World) (d : Doing) (vhost ring : ℕ) (asked : Option ℕ) (r : Effect) → back_steps.publishes_back w d (command.Backend vhost ring asked) ≡ Some r → holds d ≡ true
+back_held w (Backed file) vhost ring asked r e = refl
+back_held w (Disowned file) vhost ring asked r e = refl
+back_held w (Released file) vhost ring asked r e = refl
+back_held w d vhost ring asked r e = absurd (cc (e))
+
+no_backend : (ring : ℕ) (m : Contents) (v : Vhost) → ready_refusal ring m v.settings ≡ None → (ring_at ring v.settings).file ≡ None
+no_backend ring m v e = none_of (ring_at ring v.settings).file (first_passed _ _ _ (passed_first _ _ _ e))
+  where
+    none_of : (o : Option ℕ) → is_some o ≡ false → o ≡ None
+    none_of None k = refl
+    none_of (Some n) k = absurd (true≢false k)
+
+    passed_first : (b : Bool) (r : VhostErr) (rest : Option VhostErr) → (if b then Some r else rest) ≡ None → rest ≡ None
+    passed_first true r rest k = absurd (cc (k))
+    passed_first false r rest k = k
+
+back_driven : (s : Setup) (w : World) (x : Event) (u : World) (t : IsStep s w x u) (refusal : Option TapText) (vhost ring : ℕ) (file : Option ℕ) (v : Vhost) (m : Contents)
+    → (file ≡ None → refusal ≡ None) → at w.vhosts vhost ≡ Some v
+    → View w t.between (Backs refusal) (doing_after t.effect.onward (Backs refusal)) (command.Backend vhost ring file)
+    → back_steps.back_call s w x.actor t.actor.seen refusal vhost ring file v m ≡ t.effect → FitsWorld s w → Backings s w → Backings s t.between
+back_driven s w x u t None vhost ring None v m no_ at_ view_ eq f h =
+    unset_backings s w x u t vhost ring v m (number_refusal ring) (ring_at ring v.settings).file at_ refl view_ eq h
+back_driven s w x u t (Some r) vhost ring None v m no_ at_ view_ eq f h = absurd (cc (no_ refl))
+back_driven s w x u t None vhost ring (Some file) v m no_ at_ view_ eq f h =
+    set_backings s w x u t vhost ring file None v m (back_steps.back_answer (ready_refusal ring m v.settings) None (back_steps.unfit_for (steer.shape_of (table s w) file) v.settings)) at_
+    (λ e. let a = answered _ _ _ e in (no_backend ring m v a.0, ring_there ring (first_passed _ _ _ a.0), a.1))
+    (found_here s w t.between (Backs None) _ (command.Backend vhost ring (Some file)) view_ refl f) view_ eq h
+back_driven s w x u t (Some r) vhost ring (Some file) v m no_ at_ view_ eq f h =
+    set_backings s w x u t vhost ring file (Some r) v m (back_steps.back_answer (ready_refusal ring m v.settings) (Some r) (back_steps.unfit_for (steer.shape_of (table s w) file) v.settings)) at_
+    (λ e. let a = answered _ _ _ e in (no_backend ring m v a.0, ring_there ring (first_passed _ _ _ a.0), a.1)) tt view_ eq h
+
+backings_between : (s : Setup) (w : World) (x : Event) (u : World) (t : IsStep s w x u) → can_be t.actor.doing t.now.command ≡ true
+    → Shape s w x.actor t.actor.seen t.actor.doing t.now.command t.effect
+    → View w t.between t.actor.doing (doing_after t.effect.onward t.actor.doing) t.now.command → FitsWorld s w → Backings s w → Backings s t.between
+backings_between s w x u t can (Quiet o f g v wr alike) view_ fits h =
+    steady_backs s w x u t [] (alike_view w t.between t.actor.doing t.effect.onward t.now.command alike view_) o refl (from_none s w x u t v) h
+backings_between s w x u t can (Giving vhost file q told o f g v wr k) view_ fits h =
+    free_backs s w x u t view_ (ap holds k.doing) (ap (λ (y : Onward). holds (doing_after y t.actor.doing)) k.goes) o (from_none s w x u t v) h
+backings_between s w x u t can (Trims file n m k f is eq) view_ fits h =
+    let v = goes_within s w x u t (Shrinks file n m) (Shrinks file n k) t.now.command _ eq (at_view w t.between _ (Shrinks file n m) _ _ t.now.command is (ap (doing_after t.effect.onward) is) view_) refl refl refl in
+    even s w x u t (Shrinks file n m) (Shrinks file n k) (Some t.now.command) (Some t.now.command) [] v.0 v.1 (ops_on s w x u t _ eq) (from_none s w x u t (on_vhosts s w x u t _ eq)) (λ q i. refl) h
+backings_between s w x u t can (Approves y is of free no_ eq) view_ fits h =
+    let e : Doing = tables.course (table s w) y in
+    let v = begins w t.between Begun e t.now.command (at_view w t.between _ Begun _ e t.now.command is (doing_on s w x u t _ eq t.actor.doing) view_) refl
+    (course_is (λ (q : Doing). holds q ≡ true) (table s w) y (λ file. refl) (λ file. refl) (λ file k. refl) refl) in
+    even s w x u t Begun e None (Some t.now.command) [] v.0 v.1 (ops_on s w x u t _ eq) (from_none s w x u t (on_vhosts s w x u t _ eq))
+    (λ q n. course_is (λ (p : Doing). backer_by p (Some t.now.command) q n (backer q (file_at (table s w) n)) ≡ backer q (file_at (table s w) n)) (table s w) y
+    (λ file. refl) (λ file. refl) (λ file k. refl) refl) h
+backings_between s w x u t can (BackApproves vhost ring file v0 is cis at_ free turn no_ eq) view_ fits h =
+    let v = begins w t.between Begun (Backs None) t.now.command (at_view w t.between _ Begun _ (Backs None) t.now.command is (doing_on s w x u t _ eq t.actor.doing) view_) refl refl in
+    even s w x u t Begun (Backs None) None (Some t.now.command) [] v.0 v.1 (ops_on s w x u t _ eq) (go (is_ring ring) (on_vhosts s w x u t _ eq)) (λ q n. refl) h
+  where
+    go : (b : Bool) → t.effect.vhosts ≡ OnVhost vhost (if b then with_turn ring (Some x.actor) v0 else v0) → FromOld w.vhosts t.between.vhosts
+    go true same = from_one s w x u t vhost v0 (with_turn ring (Some x.actor) v0) same at_ (turn_files ring (Some x.actor) v0)
+    go false same = from_one s w x u t vhost v0 v0 same at_ (λ q. refl)
+backings_between s w x u t can (Reopening file f is at_ eq) view_ fits h =
+    let v = goes_within s w x u t (Opens file) (Opened file) t.now.command _ eq (at_view w t.between _ (Opens file) _ _ t.now.command is (ap (doing_after t.effect.onward) is) view_) refl refl refl in
+    even s w x u t (Opens file) (Opened file) (Some t.now.command) (Some t.now.command) [] v.0 v.1 (ops_on s w x u t _ eq) (from_none s w x u t (on_vhosts s w x u t _ eq)) (λ q n. refl) h
+backings_between s w x u t can (Shutting file version f is at_ eq) view_ fits h =
+    let v = goes_within s w x u t (Withdrawn file version) (Purges file version) t.now.command _ eq
+    (at_view w t.between _ (Withdrawn file version) _ _ t.now.command is (ap (doing_after t.effect.onward) is) view_) refl refl refl in
+    even s w x u t (Withdrawn file version) (Purges file version) (Some t.now.command) (Some t.now.command) [] v.0 v.1 (ops_on s w x u t _ eq)
+    (from_none s w x u t (on_vhosts s w x u t _ eq)) (λ q n. refl) h
+backings_between s w x u t can (Sizing file capacity f is at_ eq) view_ fits h =
+    let v = goes_within s w x u t (Resizes file capacity) (Shrinks file (claimed f) 0) t.now.command _ eq
+    (at_view w t.between _ (Resizes file capacity) _ _ t.now.command is (ap (doing_after t.effect.onward) is) view_) refl refl refl in
+    even s w x u t (Resizes file capacity) (Shrinks file (claimed f) 0) (Some t.now.command) (Some t.now.command) [] v.0 v.1 (ops_on s w x u t _ eq)
+    (from_none s w x u t (on_vhosts s w x u t _ eq)) (λ q n. refl) h
+backings_between s w x u t can (Publishing y n ans last of no_ eq) view_ fits h =
+    let v = goes_last s w x u t t.actor.doing t.now.command _ eq view_ refl (last_holds t.actor.doing last) in
+    even s w x u t t.actor.doing Begun (Some t.now.command) None (y ∷ []) v.0 v.1 (ops_on s w x u t _ eq) (from_none s w x u t (on_vhosts s w x u t _ eq))
+    (λ q i. op_backs s t.now.command y (table s w) of q i ∙ sym (last_backs t.actor.doing last q i (backer q (file_at (table s w) i)))) h
+  where
+    last_backs : (d : Doing) → IsLast d → (q : Side) (i : ℕ) (o : Option ℕ) → backer_by d (Some t.now.command) q i o ≡ o
+    last_backs Changes k q i o = refl
+    last_backs (Opened file) k q i o = refl
+    last_backs (Shrinks file a b) k q i o = refl
+    last_backs d k q i o = absurd k
+backings_between s w x u t can (Withdrawing y file is of no_ eq) view_ fits h =
+    let v = goes_within s w x u t (Withdraws file) (Withdrawn file (newest w + 1)) t.now.command _ eq
+    (at_view w t.between _ (Withdraws file) _ _ t.now.command is (ap (doing_after t.effect.onward) is) view_) refl refl refl in
+    even s w x u t (Withdraws file) (Withdrawn file (newest w + 1)) (Some t.now.command) (Some t.now.command) (y ∷ []) v.0 v.1 (ops_on s w x u t _ eq)
+    (from_none s w x u t (on_vhosts s w x u t _ eq)) (λ q i. op_backs s t.now.command y (table s w) of q i) h
+backings_between s w x u t can (Learning file hash o f g v wr alike) view_ fits h =
+    steady_backs s w x u t (op.Learn file hash ∷ []) (alike_view w t.between t.actor.doing t.effect.onward t.now.command alike view_) o (learn_same (table s w) file hash) (from_none s w x u t v) h
+backings_between s w x u t can (BackPublishes vhost ring asked cis eq) view_ fits h =
+    let v = subst (View w t.between t.actor.doing (doing_after t.effect.onward t.actor.doing)) cis view_ in
+    back_published s w x u t t.actor.doing vhost ring asked
+    (found_here s w t.between t.actor.doing _ (command.Backend vhost ring asked) v (back_held w t.actor.doing vhost ring asked t.effect eq) fits) v
+    (subst (λ (c : Command). can_be t.actor.doing c ≡ true) cis can) eq h
+backings_between s w x u t can (Owning vhost ring asked cis eq) view_ fits h =
+    owned s w x u t t.actor.doing vhost ring asked (subst (View w t.between t.actor.doing (doing_after t.effect.onward t.actor.doing)) cis view_) eq h
+backings_between s w x u t can (BackDrives refusal vhost ring file v g is cis a b free eq) view_ fits h =
+    back_driven s w x u t refusal vhost ring file v g.memory
+    (λ none. unset_refusal t.actor.doing refusal vhost ring t.now.command is (cis ∙ ap (command.Backend vhost ring) none) can) a
+    (subst (View w t.between (Backs refusal) (doing_after t.effect.onward (Backs refusal))) cis
+    (at_view w t.between _ (Backs refusal) _ _ t.now.command is (ap (doing_after t.effect.onward) is) view_)) eq fits h
+backings_between s w x u t can (Calling vhost v g y is of a b call may eq) view_ fits h =
+    free_backs s w x u t view_ (ap holds is) (ap holds (doing_on s w x u t _ eq t.actor.doing)) (ops_on s w x u t _ eq)
+    (from_one s w x u t vhost v y.vhost (on_vhosts s w x u t _ eq) a (call_files t.now.command v g.memory y (called_is t.now.command v g.memory y call))) h
+backings_between s w x u t can (Touching guest g m step v y at_ same is o f gs vs wr on) view_ fits h =
+    free_backs s w x u t view_ (ap holds is) (ap (λ (q : Onward). holds (doing_after q t.actor.doing)) on) o (from_none s w x u t vs) h
+backings_between s w x u t can (RxTurning vhost file q v g hd made files f cis a b way step leaves eq) view_ fits h =
+    free_backs s w x u t view_ (rx_free x.actor t.actor.doing file q v way)
+    (ap holds (doing_on s w x u t _ eq t.actor.doing) ∙ rx_holds t.actor.seen file made.0.turn f t.actor.doing (rx_turns.rx_over made.0.turn.stage))
+    (ops_on s w x u t _ eq) (from_one s w x u t vhost v _ (on_vhosts s w x u t _ eq) a (queue_files 0 (if is_some (rx_turns.rx_over made.0.turn.stage) then None else Some x.actor) made.0.queue v)) h
+backings_between s w x u t can (TxTurning vhost file q told v g made cis a b way step eq) view_ fits h =
+    free_backs s w x u t view_ (tx_free t.actor.doing file q told v way)
+    (ap holds (doing_on s w x u t _ eq t.actor.doing) ∙ tx_holds t.actor.seen file made.0.turn _ _ t.actor.doing (tx_turns.tx_over made.0.turn.stage))
+    (ops_on s w x u t _ eq) (from_one s w x u t vhost v _ (on_vhosts s w x u t _ eq) a (queue_files 1 (if is_some (tx_turns.tx_over made.0.turn.stage) then None else Some x.actor) made.0.queue v)) h
+
+pub backings_are_kept : (s : Setup) (w : World) (x : Event) (u : World) (t : IsStep s w x u) → can_be t.actor.doing t.now.command ≡ true
+    → Shape s w x.actor t.actor.seen t.actor.doing t.now.command t.effect → EachActor w (WriterIsHeld w) → FitsWorld s w → Backings s w → Backings s u
+backings_are_kept s w x u t can shape writer fits h =
+    let b = backings_between s w x u t can shape (view s w x u t can shape writer) fits h in
+    subst (Backings s) t.is (when_settled (Backings s) t.between b (λ f end.
+    let v = ending_view t.between f end in
+    onto_backs (ended f t.between) Begun None (table s t.between) t.between.vhosts v.1
+    (same_backs (Purges end.file f.version) Begun (Some end.now.command) None (table s t.between) (table s t.between) t.between.vhosts t.between.vhosts (no_vhost t.between.vhosts) (λ q n. refl)
+    (into_backs t.between (Purges end.file f.version) (Some end.now.command) (table s t.between) t.between.vhosts v.0 b))))

@@ -1,6 +1,6 @@
 -- Rings have the backends that the table says, after each shape of change.
-use Rattle.std.proofs.Common.{◌≡◌, ◌≢◌, ◌⊎◌, ℕ, ◌+◌, ◌<◌, ◌≤◌, List, [], ◌∷◌, length, set, Bool, true, false, Option, Some, None, inl, inr, ⊎_elim, refl, sym, ap, ◌∙◌, subst, true≢false, arith}
-use Rattle.std.specs.Prelude.{if◌then◌else◌, ◌==◌, ◌&&◌, ◌↔◌, is_some, not}
+use Rattle.std.proofs.Common.{◌≡◌, ◌≢◌, ◌⊎◌, ℕ, ◌<◌, ◌≤◌, List, length, set, Bool, true, false, Option, Some, None, inl, inr, ⊎_elim, refl, sym, ap, ◌∙◌, subst, true≢false, arith}
+use Rattle.std.specs.Prelude.{if◌then◌else◌, ◌==◌, ◌&&◌, ◌↔◌, not}
 use Rattle.std.proofs.lemmas.Bool.Decides.{eqb_tells}
 use Rattle.std.proofs.lemmas.Bool.{cases_lt}
 use Rattle.std.proofs.lemmas.List.{length-set}
@@ -15,7 +15,7 @@ use Rattle.tap_steer.specs.declared.operation.Op.TheVariants as op
 use Rattle.tap_steer.specs.declared.operation.TheConstants.{IFF_ATTACH_QUEUE}
 use Rattle.tap_steer.specs.Table.{Table, file_at, is_set, new_file}
 use Rattle.tap_steer.specs.Rules.{backer}
-use Rattle.tap_steer.specs.After.{after, attach_queue, attached_file, back, backed, detach_queue, disabled, enabled, resized, set_queue, standing}
+use Rattle.tap_steer.specs.After.{after, attach_queue, attached_file, back, backed, detach_queue, disabled, enabled, resized, standing}
 use Rattle.vhost_dev.specs.Calls as vhost_calls
 use Rattle.vhost_dev.specs.Calls.{with_addr, with_backend, with_base, with_features, with_num, without_backend}
 use Rattle.vhost_dev.specs.Settings.{RingSettings, Settings, ring_at, with_ring}
@@ -26,7 +26,7 @@ use Rattle.tap_world.specs.ByNumber.{at}
 use Rattle.tap_world.specs.Guests.{Vhost, with_queue, with_turn}
 use Rattle.tap_world.specs.Setup.{Setup, op_of, place_of}
 use Rattle.tap_world.specs.World.{Doing}
-use Rattle.tap_world.specs.World.Doing.{Backed, Backs, Begun, Disowned, Released, Unbacked}
+use Rattle.tap_world.specs.World.Doing.{Backed, Backs}
 use Rattle.tap_world.specs.StepBackend.{side_of}
 use Rattle.tap_world.specs.SoundTable.{backer_by, is_on, is_rx_side, on_side}
 use Rattle.tap_sound.proofs.Kit.{some_same}
@@ -36,8 +36,8 @@ use Rattle.tap_sound.proofs.Calls.{Called}
 use Rattle.tap_sound.proofs.Calls.Called.{Addr, Base, Features, Num, Untouched}
 use Rattle.tap_sound.proofs.Claims.{with_at_inv}
 use Rattle.tap_sound.proofs.Turns.{and_false}
-use Rattle.tap_sound.proofs.TableFiles.{at_files, back_one, device_same, learn_same, one_here, one_there, past, resize_one, set_iff_one, shut_by, tick_same}
-use Rattle.tap_sound.proofs.Turned.{itself, others}
+use Rattle.tap_sound.proofs.TableFiles.{at_files, back_one, device_same, one_here, one_there, past, resize_one, set_iff_one, shut_by, tick_same}
+use Rattle.tap_sound.proofs.Turned.{itself}
 
 -- ---- backers of files after an operation other than Back
 

@@ -12,15 +12,15 @@ use Rattle.vring_drive.specs.Books.{Books, first_books}
 use Rattle.std.specs.Option.{option_map_or}
 use Rattle.tap_trace.specs.declared.answer.Answer.TheVariants as answer
 use Rattle.vring_drive.specs.Posts.{full_pieces, post_in_refusal, post_out_refusal, posted_in, posted_out}
-use Rattle.std.specs.Prelude.{List, length, ◌+◌}
+use Rattle.std.specs.Prelude.{length, ◌+◌}
 use Rattle.vhost_dev.specs.Settings.{ring_at}
 use Rattle.scen_words.specs.declared.command.Command.{Command}
 use Rattle.scen_words.specs.declared.command.Command.TheVariants as command
 use Rattle.tap_trace.specs.declared.answer.Answer.{Answer}
 use Rattle.tap_trace.specs.declared.kind.Kind.{Kind}
 use Rattle.tap_trace.specs.declared.kind.Kind.TheVariants as kind
-use Rattle.tap_world.specs.Guests.{Vhost, driver_of, with_driver}
-use Rattle.tap_world.specs.StepControl.{Call, call_of, called, drive_told, driven, drives, harvests, posts, undriven, with_books}
+use Rattle.tap_world.specs.Guests.{Vhost, driver_of}
+use Rattle.tap_world.specs.StepControl.{Call, call_of, called, drive_told, driven, posts, undriven, with_books}
 use Rattle.tap_sound.proofs.Kit.{some_same}
 
 pub data Called (c : Command) (v : Vhost) (m : Contents) (x : Call) : Type 0 where

@@ -51,3 +51,10 @@ mod BackerEvents
 mod FreshTurns
 mod FreshRows
 mod FreshKept
+mod Tabled
+mod RingSteps
+mod Serving
+mod ServedOn
+mod RingEvents
+mod RingsKept
+mod Soundness

@@ -1,6 +1,6 @@
 -- Files have of the table what they should, after each publication.
-use Rattle.std.proofs.Common.{◌≡◌, ◌≢◌, ◌⊎◌, ℕ, ◌+◌, ◌<◌, List, [], ◌∷◌, length, set, Bool, true, false, Option, Some, None, inl, inr, ⊎_elim, refl, sym, ap, ◌∙◌, subst, true≢false}
-use Rattle.std.specs.Prelude.{if◌then◌else◌, ◌==◌, ◌&&◌, not}
+use Rattle.std.proofs.Common.{◌≡◌, ◌≢◌, ◌⊎◌, ℕ, ◌+◌, ◌<◌, List, length, set, Bool, true, false, Option, Some, None, inl, inr, ⊎_elim, refl, sym, ap, ◌∙◌, subst, true≢false}
+use Rattle.std.specs.Prelude.{if◌then◌else◌, ◌==◌, not}
 use Rattle.std.proofs.lemmas.Bool.Decides.{eqb_tells}
 use Rattle.std.proofs.lemmas.List.{length-set}
 use Rattle.tap_ledger.specs.declared.side.Side.{Side}
@@ -13,22 +13,20 @@ use Rattle.tap_steer.specs.declared.operation.Op.TheVariants as op
 use Rattle.tap_steer.specs.declared.operation.TheConstants.{IFF_ATTACH_QUEUE}
 use Rattle.tap_steer.specs.Table.{Table, file_at, is_set}
 use Rattle.tap_steer.specs.Rules.{backer, refuse}
-use Rattle.tap_steer.specs.After.{after, attach_queue, attached_file, back, backed, detach_queue, resize, resized, set_iff, set_queue, shut, standing}
+use Rattle.tap_steer.specs.After.{after, attach_queue, attached_file, back, backed, detach_queue, resize, resized, set_iff, shut, standing}
 use Rattle.scen_words.specs.declared.command.Command.{Command}
 use Rattle.scen_words.specs.declared.command.Command.TheVariants as command
-use Rattle.tap_world.specs.ByNumber.{at}
 use Rattle.tap_world.specs.Setup.{Setup, op_of}
-use Rattle.tap_world.specs.Line.{File}
 use Rattle.tap_world.specs.World.{Doing}
 use Rattle.tap_world.specs.World.Doing.{Backed, Begun, Changes, Disowned, Opened, Owns, Released, Shrinks, Withdrawn, Withdraws}
 use Rattle.tap_world.specs.StepTable.{is_enabled}
 use Rattle.tap_world.specs.StepBackend.{side_of}
 use Rattle.tap_world.specs.SoundActors.{can_be}
-use Rattle.tap_world.specs.SoundTable.{Agreed, IsAsFound, expected, has_of, of_table}
+use Rattle.tap_world.specs.SoundTable.{Agreed, IsAsFound, expected, of_table}
 use Rattle.tap_sound.proofs.Kit.{some_same}
 use Rattle.tap_sound.proofs.Agreeing.{Files, Fits, agreed_of}
 use Rattle.tap_sound.proofs.Shapes.{IsLast}
-use Rattle.tap_sound.proofs.TableFiles.{at_files, attach_finds, attach_one, back_one, detach_finds, detach_one, device_same, enabled_is, enabled_there, one_here, one_there, resize_one, set_iff_one, shut_by, shut_one, tick_same}
+use Rattle.tap_sound.proofs.TableFiles.{at_files, attach_finds, attach_one, back_one, detach_one, device_same, enabled_is, enabled_there, one_here, one_there, resize_one, set_iff_one, shut_by, shut_one, tick_same}
 use Rattle.tap_sound.proofs.Taken.{both}
 use Rattle.tap_sound.proofs.Turned.{itself, others}
 

@@ -1,5 +1,5 @@
 -- What an event changes has one of few shapes: all rows.
-use Rattle.std.proofs.Common.{◌≡◌, ℕ, ◌+◌, List, [], ◌∷◌, Bool, true, false, Option, Some, None, refl, ◌⊎◌, inl, inr, sym, ap, ◌∙◌, subst, true≢false}
+use Rattle.std.proofs.Common.{◌≡◌, ℕ, ◌+◌, List, [], ◌∷◌, Bool, true, false, Option, Some, None, refl, ◌⊎◌, inl, inr, sym, ap, ◌∙◌, true≢false}
 use Rattle.std.specs.Prelude.{if◌then◌else◌, ◌==◌, ◌&&◌, ◌||◌, is_none, is_some, nat_lt, slice_get, not}
 use Rattle.std.specs.Option.{option_map_or}
 use Rattle.guest_mem.specs.Memory.{Contents}
@@ -7,49 +7,41 @@ use Rattle.tap_frame.specs.declared.name.Name.{Name}
 use Rattle.tap_ledger.specs.declared.fate.Cause.{Cause}
 use Rattle.tap_steer.specs.declared.operation.Op.{Op}
 use Rattle.tap_steer.specs.Select.{learns}
-use Rattle.vhost_dev.specs.declared.error.VhostErr.{VhostErr}
 use Rattle.vring_turns.specs.declared.stage.RxStage.{RxStage}
 use Rattle.vring_turns.specs.RxTurn.{RxTurn, rx_step, rx_begun}
 use Rattle.vring_turns.specs.TxTurn.{TxTurn, tx_step, tx_begun}
 use Rattle.scen_words.specs.declared.command.Command.{Command}
 use Rattle.tap_trace.specs.declared.causes.TapText.{TapText}
-use Rattle.tap_trace.specs.declared.answer.Answer.{Answer}
 use Rattle.tap_trace.specs.declared.turn.ChainText.{ChainText}
 use Rattle.tap_world.specs.declared.event.EventKind.{EventKind}
-use Rattle.tap_world.specs.declared.event.Found.{Found}
 use Rattle.tap_world.specs.ByNumber.{at}
 use Rattle.tap_world.specs.Frames.{Front, bad_in, ether_in, least_in, sent_bytes, sent_front}
-use Rattle.vhost_dev.specs.Refusals.{number_refusal}
-use Rattle.vhost_dev.specs.Settings.{ring_at, hdr_of}
+use Rattle.vhost_dev.specs.Settings.{hdr_of}
 use Rattle.tap_world.specs.Setup.{Setup, op_of}
-use Rattle.tap_world.specs.Line.{File, claimed, has_batch, is_full, is_gone, is_over, is_spent, first_that, front_place, in_batch, in_ring, last_that}
+use Rattle.tap_world.specs.Line.{File, has_batch, is_full, is_gone, is_over, is_spent, first_that, front_place, in_batch, in_ring, last_that}
 use Rattle.tap_world.specs.LineSteps.{ready_front, changed}
 use Rattle.tap_world.specs.Guests.{Vhost, is_free, is_ring, turn_of, Guest}
 use Rattle.tap_steer.specs.Rules.{refuse}
 use Rattle.tap_world.specs.World.{Actor, Doing, World, name_of, newest, table}
-use Rattle.tap_world.specs.World.Doing.{Backed, Backs, Begun, Changes, Disowned, Given, Hosts, Learns, Opened, Opens, Owns, Placed, Purges, Reads, Receives, Released, Resizes, Routed, Shrinks, Teaches, Transmits, Unbacked, Withdrawn, Withdraws}
-use Rattle.tap_world.specs.Effect.{Effect, Onward, only, OnFiles}
+use Rattle.tap_world.specs.World.Doing.{Backs, Begun, Changes, Given, Hosts, Learns, Opened, Opens, Placed, Purges, Reads, Receives, Resizes, Routed, Shrinks, Teaches, Transmits, Withdrawn, Withdraws}
+use Rattle.tap_world.specs.Effect.{Effect, only}
 use Rattle.tap_flow_key.specs.FlowKey.{hash}
 use Rattle.tap_world.specs.Effect.Onward.{Ends, Goes}
 use Rattle.tap_sound.proofs.Kit.{WhereSome, either, where_if, where_only, where_then}
-use Rattle.tap_sound.proofs.Steps.{held, or_else, own, owning, publication, turning}
+use Rattle.tap_sound.proofs.Steps.{held, or_else}
 use Rattle.tap_frame.specs.declared.reading.BadFrame.{BadFrame}
 use Rattle.tap_steer.specs.declared.error.TapErr.{TapErr}
 use Rattle.tap_steer.specs.declared.selection.Select.{Select}
-use Rattle.tap_steer.specs.Table.{Table}
-use Rattle.tap_world.specs.Effect.OnFiles.{NoFile, OnFile}
-use Rattle.tap_trace.specs.declared.kind.Kind.{Kind}
-use Rattle.tap_world.specs.Effect.OnGuests.{NoGuest}
-use Rattle.tap_world.specs.Effect.OnVhosts.{NoVhost}
+use Rattle.tap_world.specs.Effect.OnFiles.{NoFile}
 use Rattle.tap_world.specs.Scripts.{is_kind, next_kind, hand_next, kind_number, purge_next, read_next, rx_next_kind, send_next, shrink_next, tx_next_kind}
 use Rattle.vring_turns.specs.declared.stage.TxStage.{TxStage}
 use Rattle.tap_world.specs.Sound.{holds}
-use Rattle.tap_world.specs.SoundRings.{holds_turn, serves}
-use Rattle.tap_world.specs.SoundActors.{can_be, is_rx_turn, is_tx_turn}
+use Rattle.tap_world.specs.SoundRings.{StandsWith, holds_turn, serves}
+use Rattle.tap_world.specs.SoundActors.{can_be, is_tx_turn}
 use Rattle.tap_sound.proofs.Taken.{both}
 use Rattle.tap_sound.proofs.Follows.{at_file_kind}
-use Rattle.tap_sound.proofs.Shapes.{Alike, Leaves, RxWay, Shape, TxWay}
-use Rattle.tap_sound.proofs.Shapes.Shape.{BackDrives, BackPublishes, BackApproves, Calling, Learning, Owning, Publishing, Quiet, Reopening, RxTurning, Shutting, Sizing, Approves, Touching, Trims, TxTurning, Withdrawing}
+use Rattle.tap_sound.proofs.Shapes.{Leaves, RxWay, Shape, TxWay}
+use Rattle.tap_sound.proofs.Shapes.Shape.{Giving, BackDrives, BackPublishes, BackApproves, Calling, Learning, Owning, Publishing, Quiet, Reopening, RxTurning, Shutting, Sizing, Approves, Touching, Trims, TxTurning, Withdrawing}
 use Rattle.tap_ledger.specs.declared.hand.Hand.TheVariants as hand
 use Rattle.vring_turns.specs.declared.stage.RxStage.TheVariants as rx
 use Rattle.scen_words.specs.declared.command.Command.TheVariants as command
@@ -82,9 +74,9 @@ none_of (Some x) h = absurd (true≢false (sym h))
 ends : (d : Doing) → d ≡ Begun → (holds d ≡ false) × (holds_turn d ≡ false)
 ends d is = (ap holds is, ap holds_turn is)
 
-goes : (d e : Doing) → d ≡ Begun → holds e ≡ false → holds_turn e ≡ false → serves e ≡ false
-    → (holds d ≡ false) × (holds e ≡ false) × (holds_turn e ≡ holds_turn d) × (serves e ≡ serves d)
-goes d e is a b x = (ap holds is, a, b ∙ ap holds_turn (sym is), x ∙ ap serves (sym is))
+goes : (d e : Doing) → d ≡ Begun → holds e ≡ false → holds_turn e ≡ false → serves e ≡ false → ((v : Vhost) → StandsWith e v)
+    → (holds d ≡ false) × (holds e ≡ false) × (holds_turn e ≡ holds_turn d) × (serves e ≡ serves d) × ((v : Vhost) → StandsWith d v → StandsWith e v)
+goes d e is a b x y = (ap holds is, a, b ∙ ap holds_turn (sym is), x ∙ ap serves (sym is), λ v h. y v)
 
 -- ---- which commands can be at a row
 
@@ -172,7 +164,7 @@ module _ (s : Setup) (w : World) (me seen : ℕ) (d : Doing) (c : Command) where
   routed : (name : Name) (x : Select) → d ≡ Begun → Shape s w me seen d c (tables.routed w name x)
   routed name select.NoQueue is = Quiet refl tt refl refl refl (ends d is)
   routed name select.Filtered is = Quiet refl tt refl refl refl (ends d is)
-  routed name (select.Row row keep resizes capacity) is = Quiet refl tt refl refl refl (goes d (Routed row.file row.epoch keep) is refl refl refl)
+  routed name (select.Row row keep resizes capacity) is = Quiet refl tt refl refl refl (goes d (Routed row.file row.epoch keep) is refl refl refl (λ v. tt))
 
   unless_bad : (x : Option BadFrame) (r : Effect) → d ≡ Begun → Shape s w me seen d c r → Shape s w me seen d c (tables.unless_bad x w r)
   unless_bad None r is h = h
@@ -184,7 +176,7 @@ module _ (s : Setup) (w : World) (me seen : ℕ) (d : Doing) (c : Command) where
 
   reading : (file room : ℕ) (front : Front) → d ≡ Begun → Shape s w me seen d c (tables.reads w file room front)
   reading file room front is = either (Shape s w me seen d c) (nat_lt room (least_in front)) _ _
-      (Quiet refl tt refl refl refl (ends d is)) (Quiet refl tt refl refl refl (goes d (Reads file room front) is refl refl refl))
+      (Quiet refl tt refl refl refl (ends d is)) (Quiet refl tt refl refl refl (goes d (Reads file room front) is refl refl refl (λ v. tt)))
 
   looks : (a : Actor) (n : ℕ) → d ≡ Begun → ((name : Name) → AllShaped s w me seen d c (tables.looks_at (table s w) w name c))
       → AllShaped s w me seen d c (tables.looks s w me a n c)
@@ -208,22 +200,22 @@ looks_at s w me seen d name (command.Write file bytes) is =
     with_front s w me seen d (command.Write file bytes) (steer.shape_of (table s w) file) (tables.writes (table s w) w file bytes) is
     (λ front. unless_bad s w me seen d (command.Write file bytes) (bad_in front bytes)
     (only (Goes (newest w) (Hosts file (ether_in front bytes) (steer.learns (table s w) file)) (found.Version (newest w))) w) is
-    (Quiet refl tt refl refl refl (goes d (Hosts file (ether_in front bytes) (steer.learns (table s w) file)) is refl refl refl)))
+    (Quiet refl tt refl refl refl (goes d (Hosts file (ether_in front bytes) (steer.learns (table s w) file)) is refl refl refl (λ v. tt))))
 looks_at s w me seen d name c is = tt
 
 back_seen : (s : Setup) (w : World) (me seen : ℕ) (d : Doing) (vhost r : ℕ) (file : Option ℕ) (v : Vhost) (o : Option TapText) → d ≡ Begun
     → at w.vhosts vhost ≡ Some v → w.writer ≡ None → (not (is_ring r) || is_none (turn_of r v)) ≡ true → back.back_refusal (table s w) vhost r file ≡ o
     → Shape s w me seen d (command.Backend vhost r file) (back.back_seen w me vhost r v o)
 back_seen s w me seen d vhost r file v None is at_ free turn no_ = BackApproves vhost r file v is refl at_ free turn no_ refl
-back_seen s w me seen d vhost r file v (Some x) is at_ free turn no_ = Quiet refl tt refl refl refl (goes d (Backs (Some x)) is refl refl refl)
+back_seen s w me seen d vhost r file v (Some x) is at_ free turn no_ = Quiet refl tt refl refl refl (goes d (Backs (Some x)) is refl refl refl (λ v. tt))
 
 looks_at_flow : (s : Setup) (w : World) (me seen : ℕ) (d : Doing) (c : Command) → AllShaped s w me seen d c (tx_turns.looks_at_flow s w d)
 looks_at_flow s w me seen (Given file t told f) c = go (learns (table s w) file)
   where
     go : (b : Bool) → Shape s w me seen (Given file t told f) c
         (only (Goes (newest w) (if b then Teaches file t told f else Transmits file t told) (found.Version (newest w))) w)
-    go true = Quiet refl tt refl refl refl (refl, refl, refl, refl)
-    go false = Quiet refl tt refl refl refl (refl, refl, refl, refl)
+    go true = Quiet refl tt refl refl refl (refl, refl, refl, refl, λ v h. h)
+    go false = Quiet refl tt refl refl refl (refl, refl, refl, refl, λ v h. h)
 looks_at_flow s w me seen d c = tt
 
 look_row : (s : Setup) (w : World) (me : ℕ) (a : Actor) (n : ℕ) (c : Command) → is_kind event.Look (next_kind w a.doing c) ≡ true → can_be a.doing c ≡ true
@@ -263,7 +255,7 @@ publishes s w me seen d c = own_op s w me seen d c
 teaches : (s : Setup) (w : World) (me seen : ℕ) (d : Doing) (c : Command) → AllShaped s w me seen d c (tx_turns.teaches w d)
 teaches s w me seen (Teaches file t told f) c = where_only (Shape s w me seen (Teaches file t told f) c) (is_none w.writer)
     (record (only (Goes (newest w + 1) (Transmits file t told) (found.Version (newest w + 1))) w) { ops = op.Learn file (hash f.made) ∷ [] })
-    (λ b. Learning file (hash f.made) refl refl refl refl refl (refl, refl, refl, refl))
+    (λ b. Learning file (hash f.made) refl refl refl refl refl (refl, refl, refl, refl, λ v h. h))
 teaches s w me seen d c = tt
 
 -- what a row gives, by its equation
@@ -281,7 +273,7 @@ publish_row s w me seen d c = publishes s w me seen d c
 
 module _ (s : Setup) (w : World) (me seen : ℕ) (c : Command) where
   claims : (n : ℕ) (d : Doing) → AllShaped s w me seen d c (ring.claims w me n seen d)
-  claims n (Routed file epoch len) = where_then (Shape s w me seen (Routed file epoch len) c) (at w.files file) _ (λ f e1. Quiet refl tt refl refl refl (refl, refl, refl, refl))
+  claims n (Routed file epoch len) = where_then (Shape s w me seen (Routed file epoch len) c) (at w.files file) _ (λ f e1. Quiet refl tt refl refl refl (refl, refl, refl, refl, λ v h. tt))
   claims n d = tt
 
   puts : (d : Doing) → AllShaped s w me seen d c (ring.puts w me seen d)
@@ -338,7 +330,7 @@ module _ (s : Setup) (w : World) (me seen : ℕ) (c : Command) where
   meets_worker d = tt
 
   hosts : (n : ℕ) (d : Doing) → AllShaped s w me seen d c (ring.hosts w me n seen d)
-  hosts n (Hosts file ether true) = Quiet refl tt refl refl refl (refl, refl, refl, refl)
+  hosts n (Hosts file ether true) = Quiet refl tt refl refl refl (refl, refl, refl, refl, λ v h. tt)
   hosts n (Hosts file ether false) = Quiet refl tt refl refl refl (refl, refl)
   hosts n d = tt
 
@@ -447,11 +439,37 @@ finds_nothing s w me seen (Receives file t) (command.RxTurn vhost) can = let P =
 finds_nothing s w me seen (Receives file t) c can = absurd (true≢false (sym can))
 finds_nothing s w me seen d c can = tt
 
-gives : (s : Setup) (w : World) (me seen : ℕ) (d : Doing) (c : Command) → AllShaped s w me seen d c (tx_turns.hosts_of_turn w seen d c)
-gives s w me seen (Transmits file t told) c = let P = Shape s w me seen (Transmits file t told) c in
-    turning P w c _ (λ vhost v m. where_then P t.held _ (λ f e1. where_then P (tx_step (tx_turns.tx_state t v m)) _
-    (λ made e2. Quiet refl tt refl refl refl (refl, refl, refl, refl))))
-gives s w me seen d c = tt
+give_stage : (st : TxStage) → is_kind event.HostIn (tx_next_kind st) ≡ true → st ≡ tx.Give
+give_stage tx.Give e = refl
+give_stage tx.Begin e = absurd (true≢false (sym e))
+give_stage tx.Fetch e = absurd (true≢false (sym e))
+give_stage tx.NoticesOn e = absurd (true≢false (sym e))
+give_stage tx.FetchAgain e = absurd (true≢false (sym e))
+give_stage (tx.NoticesOff fault) e = absurd (true≢false (sym e))
+give_stage tx.Copy e = absurd (true≢false (sym e))
+give_stage (tx.Publish end) e = absurd (true≢false (sym e))
+give_stage (tx.Ended end) e = absurd (true≢false (sym e))
+
+gives : (s : Setup) (w : World) (me seen : ℕ) (d : Doing) (c : Command) → is_kind event.HostIn (next_kind w d c) ≡ true → can_be d c ≡ true
+    → AllShaped s w me seen d c (tx_turns.hosts_of_turn w seen d c)
+gives s w me seen (Transmits file t told) (command.TxTurn vhost) next can = let P = Shape s w me seen (Transmits file t told) (command.TxTurn vhost) in
+    where_then P (at w.vhosts vhost) _ (λ v a. where_then P (at w.guests v.guest) _ (λ g b. where_then P t.held _ (λ f e1. where_then P (tx_step (tx_turns.tx_state t v g.memory)) _
+    (λ made e2. Giving vhost file t told refl refl refl refl refl (record {
+      v = v;
+      g = g;
+      made = made;
+      frame = f;
+      seen = seen;
+      f = found.Moved f.name;
+      doing = refl;
+      stage = give_stage t.stage next;
+      command = refl;
+      at_vhost = a;
+      step = e2;
+      goes = refl;
+    })))))
+gives s w me seen (Transmits file t told) c next can = absurd (true≢false (sym can))
+gives s w me seen d c next can = tt
 
 -- ---- all rows
 
@@ -477,7 +495,7 @@ row_shape s w event.NotReady me a n c next can = or_else (Shape s w me a.seen a.
     (finds_none s w me a.seen c a.doing) (finds_nothing s w me a.seen a.doing c can)
 row_shape s w event.Owner me a n c next can = owner_row s w me a.seen a.doing c
 row_shape s w event.HostIn me a n c next can = or_else (Shape s w me a.seen a.doing c) (ring.hosts w me n a.seen a.doing) (tx_turns.hosts_of_turn w a.seen a.doing c)
-    (hosts s w me a.seen c n a.doing) (gives s w me a.seen a.doing c)
+    (hosts s w me a.seen c n a.doing) (gives s w me a.seen a.doing c next can)
 row_shape s w event.Poke me a n c next can = pokes s w me a.seen a.doing c can
 row_shape s w event.Peek me a n c next can = pokes s w me a.seen a.doing c can
 row_shape s w event.Drive me a n c next can = drive_row s w me a.seen a.doing c

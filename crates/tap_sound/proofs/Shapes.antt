@@ -1,5 +1,5 @@
 -- What an event changes has one of few shapes, whatever its row.
-use Rattle.std.proofs.Common.{◌≡◌, ◌⊎◌, ℕ, ◌+◌, List, [], ◌∷◌, Bool, true, false, Option, Some, None, inl, inr, refl, sym, ap, ◌∙◌, subst, true≢false}
+use Rattle.std.proofs.Common.{◌≡◌, ◌⊎◌, ℕ, ◌+◌, List, [], ◌∷◌, true, false, Option, Some, None}
 use Rattle.std.specs.Prelude.{◌||◌, is_none, not}
 use Rattle.guest_mem.specs.Memory.{Contents}
 use Rattle.tap_ledger.specs.declared.act.Act.{Act}
@@ -10,6 +10,8 @@ use Rattle.tap_steer.specs.Rules.{refuse}
 use Rattle.vhost_dev.specs.Settings.{hdr_of}
 use Rattle.vring_turns.specs.RxTurn.{RxState, RxTurn, rx_begun, rx_step}
 use Rattle.vring_turns.specs.TxTurn.{TxState, TxTurn, tx_begun, tx_step}
+use Rattle.tap_frame.specs.Frame.{FrameValue}
+use Rattle.vring_turns.specs.declared.stage.TxStage.TheVariants as tx
 use Rattle.scen_words.specs.declared.command.Command.{Command}
 use Rattle.scen_words.specs.declared.command.Command.TheVariants as command
 use Rattle.tap_frame.specs.declared.name.Name.{Name}
@@ -24,12 +26,12 @@ use Rattle.tap_world.specs.Setup.{Setup, op_of}
 use Rattle.tap_world.specs.Line.{File, claimed}
 use Rattle.tap_world.specs.LineSteps.Change.{Cuts, Owned, Reopens, Shuts, Sizes}
 use Rattle.tap_world.specs.Guests.{Guest, Vhost, is_free, is_free_for, is_ring, turn_of}
-use Rattle.tap_world.specs.World.{Actor, Doing, World, table}
-use Rattle.tap_world.specs.World.Doing.{Backs, Begun, Changes, Opened, Opens, Purges, Receives, Resizes, Shrinks, Transmits, Withdrawn, Withdraws}
-use Rattle.tap_world.specs.Effect.{Effect, OnFiles, OnGuests, OnVhosts, Onward, on_file}
+use Rattle.tap_world.specs.World.{Doing, World, table}
+use Rattle.tap_world.specs.World.Doing.{Backs, Begun, Changes, Given, Opened, Opens, Purges, Receives, Resizes, Shrinks, Transmits, Withdrawn, Withdraws}
+use Rattle.tap_world.specs.Effect.{Effect, OnFiles, Onward, on_file}
 use Rattle.tap_world.specs.Effect.OnFiles.{NoFile, OnFile}
 use Rattle.tap_world.specs.Effect.OnGuests.{NoGuest, OnGuest}
-use Rattle.tap_world.specs.Effect.OnVhosts.{NoVhost, OnVhost}
+use Rattle.tap_world.specs.Effect.OnVhosts.{NoVhost}
 use Rattle.tap_world.specs.Effect.Onward.{Ends, Goes, Stays}
 use Rattle.tap_world.specs.StepBackend as back
 use Rattle.tap_world.specs.StepControl as control
@@ -37,7 +39,7 @@ use Rattle.tap_world.specs.StepTable as tables
 use Rattle.tap_world.specs.StepTurns as rx_turns
 use Rattle.tap_world.specs.StepTransmits as tx_turns
 use Rattle.tap_world.specs.Sound.{holds}
-use Rattle.tap_world.specs.SoundRings.{holds_turn, serves}
+use Rattle.tap_world.specs.SoundRings.{StandsWith, holds_turn, serves}
 
 -- a change of a file that leaves gate, owner and capacity
 abbrev pub Leaves : OnFiles → Type 0
@@ -51,7 +53,8 @@ Leaves o = Unit {0}
 abbrev pub Alike : Doing → Onward → Type 0
 Alike d (Stays f) = Unit {0}
 Alike d (Ends seen x) = (holds d ≡ false) × (holds_turn d ≡ false)
-Alike d (Goes seen e f) = (holds d ≡ false) × (holds e ≡ false) × (holds_turn e ≡ holds_turn d) × (serves e ≡ serves d)
+Alike d (Goes seen e f) =
+    (holds d ≡ false) × (holds e ≡ false) × (holds_turn e ≡ holds_turn d) × (serves e ≡ serves d) × ((v : Vhost) → StandsWith d v → StandsWith e v)
 
 -- it publishes and ends
 abbrev pub IsLast : Doing → Type 0
@@ -71,8 +74,25 @@ TxWay d file t told v =
     (d ≡ Transmits file t told)
     ⊎ ((d ≡ Begun) × (v.settings.tx.file ≡ Some file) × (is_free 1 v ≡ true) × (first : Name) × (t ≡ tx_begun (hdr_of v.settings) first))
 
+-- a transmit turn gives its frame to the host
+pub record Gives (w : World) (vhost file : ℕ) (t : TxTurn) (told : List ChainText) (d : Doing) (c : Command) (o : Onward) : Type 0 where
+  pub v : Vhost
+  pub g : Guest
+  pub made : TxState × Act
+  pub frame : FrameValue
+  pub seen : ℕ
+  pub f : Found
+  pub doing : d ≡ Transmits file t told
+  pub stage : t.stage ≡ tx.Give
+  pub command : c ≡ command.TxTurn vhost
+  pub at_vhost : at w.vhosts vhost ≡ Some v
+  pub step : tx_step (tx_turns.tx_state t v g.memory) ≡ Some made
+  pub goes : o ≡ Goes seen (Given file made.0.turn told frame) f
+
 pub data Shape (s : Setup) (w : World) (me seen : ℕ) (d : Doing) (c : Command) (r : Effect) : Type 0 where
   Quiet : r.ops ≡ [] → Leaves r.files → r.guests ≡ NoGuest → r.vhosts ≡ NoVhost → r.writer ≡ w.writer → Alike d r.onward → Shape s w me seen d c r
+  Giving : (vhost file : ℕ) (t : TxTurn) (told : List ChainText) → r.ops ≡ [] → r.files ≡ NoFile → r.guests ≡ NoGuest → r.vhosts ≡ NoVhost
+      → r.writer ≡ w.writer → Gives w vhost file t told d c r.onward → Shape s w me seen d c r
   Trims : (file n m k : ℕ) (f : Found) → d ≡ Shrinks file n m → on_file file Cuts (Goes seen (Shrinks file n k) f) w ≡ r → Shape s w me seen d c r
   Approves : (x : Op) → d ≡ Begun → op_of s c ≡ Some x → w.writer ≡ None → refuse (table s w) x ≡ None
       → tables.approved w me (tables.course (table s w) x) None ≡ r → Shape s w me seen d c r

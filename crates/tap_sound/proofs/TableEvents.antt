@@ -1,51 +1,28 @@
 -- Every event keeps what files have of the table: all shapes.
-use Rattle.std.proofs.Common.{◌≡◌, ◌⊎◌, ℕ, ◌+◌, List, [], ◌∷◌, ◌++◌, map, Bool, true, false, Option, Some, None, inl, inr, ⊎_elim, refl, sym, ap, ◌∙◌, subst, true≢false}
-use Rattle.std.specs.Prelude.{if◌then◌else◌, ◌==◌, ◌||◌, is_none, is_some, not, option_map, drop}
-use Rattle.guest_mem.specs.Memory.{Contents}
-use Rattle.tap_steer.specs.declared.error.TapErr.{TapErr}
-use Rattle.tap_steer.specs.declared.operation.Op.{Op}
-use Rattle.tap_steer.specs.declared.operation.TheConstants.{IFF_ATTACH_QUEUE}
-use Rattle.tap_steer.specs.Table.{Table, file_at, is_set}
-use Rattle.tap_steer.specs.Rules.{backer, refuse}
-use Rattle.tap_steer.specs.After.{after, after_all}
-use Rattle.vhost_dev.specs.declared.error.VhostErr.{VhostErr}
-use Rattle.vhost_dev.specs.Refusals.{number_refusal, ready_refusal}
-use Rattle.vhost_dev.specs.Settings.{ring_at}
+use Rattle.std.proofs.Common.{◌≡◌, ℕ, ◌+◌, [], ◌∷◌, true, false, Some, None, refl, sym, ap, ◌∙◌, subst}
 use Rattle.scen_words.specs.declared.command.Command.{Command}
-use Rattle.tap_trace.specs.declared.answer.Answer.{Answer}
-use Rattle.tap_trace.specs.declared.causes.TapText.{TapText}
 use Rattle.tap_world.specs.declared.event.Event.{Event}
-use Rattle.tap_world.specs.Causes.{tap_text}
-use Rattle.tap_world.specs.Setup.{Setup, op_of, opening_table}
-use Rattle.tap_world.specs.Guests.{Vhost, is_ring}
-use Rattle.tap_world.specs.World.{Actor, Doing, Published, World, newest, table}
-use Rattle.tap_world.specs.World.Doing.{Backed, Backs, Begun, Changes, Disowned, Opened, Opens, Owns, Purges, Released, Resizes, Shrinks, Unbacked, Withdrawn, Withdraws}
-use Rattle.tap_world.specs.Effect.{Effect, OnFiles, Onward, files_after, only, ended}
+use Rattle.tap_world.specs.Setup.{Setup}
+use Rattle.tap_world.specs.World.{Doing, World, newest, table}
+use Rattle.tap_world.specs.World.Doing.{Backs, Begun, Opened, Opens, Purges, Resizes, Shrinks, Withdrawn, Withdraws}
+use Rattle.tap_world.specs.Effect.{OnFiles, Onward, ended}
 use Rattle.tap_world.specs.Effect.OnFiles.{NoFile, OnFile}
-use Rattle.tap_world.specs.Effect.Onward.{Ends, Goes, Stays}
-use Rattle.tap_world.specs.LineSteps.Change.{Owned, Cuts, Reopens, Shuts, Sizes}
+use Rattle.tap_world.specs.LineSteps.Change.{Cuts, Reopens, Shuts, Sizes}
 use Rattle.tap_world.specs.Sound.{EachActor, WriterIsHeld, holds}
 use Rattle.tap_world.specs.SoundActors.{can_be}
-use Rattle.tap_world.specs.SoundTable.{Agreed, IsAsFound, asked_by, commanded, expected, of_table, writing}
-use Rattle.tap_sound.proofs.Kit.{either, some_same, then_some}
-use Rattle.tap_sound.proofs.Agreeing.{Files, Fits, goes_on, reopening, shutting, sizing, steady}
-use Rattle.tap_sound.proofs.Kept.{effect_files, effect_ops}
-use Rattle.tap_sound.proofs.Publishing.{equal, publishing, sets_rx, sets_tx, unsets_rx, unsets_tx, withdrawing}
+use Rattle.tap_world.specs.SoundTable.{Agreed, IsAsFound, expected}
+use Rattle.tap_sound.proofs.Agreeing.{goes_on, reopening, shutting, sizing, steady}
+use Rattle.tap_sound.proofs.Publishing.{publishing, withdrawing}
 use Rattle.tap_sound.proofs.Shapes.{Alike, IsLast, Shape}
-use Rattle.tap_sound.proofs.Shapes.Shape.{Approves, BackApproves, BackDrives, BackPublishes, Calling, Learning, Owning, Publishing, Quiet, Reopening, RxTurning, Shutting, Sizing, Touching, Trims, TxTurning, Withdrawing}
-use Rattle.tap_sound.proofs.Standing.{answered, first_passed, ring_there}
-use Rattle.tap_sound.proofs.TableFiles.{back_finds, detach_finds, learn_same}
-use Rattle.tap_sound.proofs.Taken.{IsEnding, IsStep, both, when_settled}
-use Rattle.tap_sound.proofs.Views.{Is, View, ending_view, view}
-use Rattle.tap_sound.proofs.Views.View.{Aside, Begins, Closes, Within}
+use Rattle.tap_sound.proofs.Shapes.Shape.{Giving, Approves, BackApproves, BackDrives, BackPublishes, Calling, Learning, Owning, Publishing, Quiet, Reopening, RxTurning, Shutting, Sizing, Touching, Trims, TxTurning, Withdrawing}
+use Rattle.tap_sound.proofs.TableFiles.{learn_same}
+use Rattle.tap_sound.proofs.Taken.{IsStep, when_settled}
+use Rattle.tap_sound.proofs.Views.{View, ending_view, view}
 use Rattle.tap_sound.proofs.Writers.{course_is, doing_after, rx_free, rx_holds, tx_free, tx_holds, unset_refusal, last_holds}
 use Rattle.tap_world.specs.Line.{claimed}
-use Rattle.tap_sound.proofs.TableKept.{FitsWorld, alike_view, aside, asked_is, at_view, back_found, back_publishes, begins, closes, course_found, doing_on, drives, files_on, goes_last, goes_within, on_files, ops_on, owns, passes, passes_still, steady_here, into, onto}
+use Rattle.tap_sound.proofs.TableKept.{FitsWorld, alike_view, aside, asked_is, at_view, back_found, back_publishes, begins, course_found, doing_on, drives, files_on, goes_last, goes_within, on_files, ops_on, owns, passes, passes_still, steady_here, into, onto}
 use Rattle.tap_steer.specs.declared.operation.Op.TheVariants as op
-use Rattle.tap_steer.specs.Select as steer
 use Rattle.scen_words.specs.declared.command.Command.TheVariants as command
-use Rattle.tap_world.specs.declared.event.Found.TheVariants as found
-use Rattle.tap_world.specs.StepBackend as back
 use Rattle.tap_world.specs.StepTable as tables
 use Rattle.tap_sound.proofs.Shapes as shapes
 use Rattle.tap_world.specs.StepTurns as rx_turns
@@ -62,6 +39,8 @@ fits_between : (s : Setup) (w : World) (x : Event) (u : World) (t : IsStep s w x
     → View w t.between t.actor.doing (doing_after t.effect.onward t.actor.doing) t.now.command → FitsWorld s w → FitsWorld s t.between
 fits_between s w x u t can (Quiet o f g v wr alike) view_ h =
     steady_here s w x u t [] t.effect.files (alike_view w t.between t.actor.doing t.effect.onward t.now.command alike view_) o refl refl f h
+fits_between s w x u t can (Giving vhost file q told o f g v wr k) view_ h =
+    free_event s w x u t NoFile view_ (ap holds k.doing) (ap (λ (y : Onward). holds (doing_after y t.actor.doing)) k.goes) o f tt h
 fits_between s w x u t can (Trims file n m k f is eq) view_ h =
     let v = goes_within s w x u t (Shrinks file n m) (Shrinks file n k) t.now.command _ eq (at_view w t.between _ (Shrinks file n m) _ _ t.now.command is (ap (doing_after t.effect.onward) is) view_) refl refl refl in
     passes s w x u t (Shrinks file n m) (Shrinks file n k) (Some t.now.command) (Some t.now.command) [] v.0 v.1 (ops_on s w x u t _ eq)

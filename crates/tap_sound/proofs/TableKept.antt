@@ -1,13 +1,13 @@
 -- Every event keeps what files have of the table.
-use Rattle.std.proofs.Common.{◌≡◌, ◌⊎◌, ℕ, ◌+◌, List, [], ◌∷◌, ◌++◌, map, Bool, true, false, Option, Some, None, inl, inr, ⊎_elim, refl, sym, ap, ◌∙◌, subst, true≢false}
-use Rattle.std.specs.Prelude.{if◌then◌else◌, ◌==◌, ◌||◌, is_none, is_some, not, option_map}
+use Rattle.std.proofs.Common.{◌≡◌, ℕ, ◌+◌, List, [], ◌∷◌, ◌++◌, map, Bool, true, false, Option, Some, None, refl, sym, ap, ◌∙◌, subst, true≢false}
+use Rattle.std.specs.Prelude.{if◌then◌else◌, ◌==◌, not, option_map}
 use Rattle.guest_mem.specs.Memory.{Contents}
 use Rattle.tap_steer.specs.declared.error.TapErr.{TapErr}
 use Rattle.tap_steer.specs.declared.operation.Op.{Op}
 use Rattle.tap_steer.specs.declared.operation.Op.TheVariants as op
 use Rattle.tap_steer.specs.declared.operation.TheConstants.{IFF_ATTACH_QUEUE}
 use Rattle.tap_steer.specs.Table.{Table, file_at, is_set}
-use Rattle.tap_steer.specs.Rules.{backer, refuse}
+use Rattle.tap_steer.specs.Rules.{refuse}
 use Rattle.tap_steer.specs.After.{after, after_all}
 use Rattle.tap_steer.specs.Select as steer
 use Rattle.vhost_dev.specs.declared.error.VhostErr.{VhostErr}
@@ -22,30 +22,30 @@ use Rattle.tap_world.specs.declared.event.Found.TheVariants as found
 use Rattle.tap_world.specs.Causes.{tap_text}
 use Rattle.tap_world.specs.Setup.{Setup, op_of, opening_table}
 use Rattle.tap_world.specs.Guests.{Vhost, is_ring}
-use Rattle.tap_world.specs.World.{Actor, Doing, Published, World, newest, table}
-use Rattle.tap_world.specs.World.Doing.{Backed, Backs, Begun, Changes, Disowned, Opened, Opens, Owns, Purges, Released, Resizes, Shrinks, Unbacked, Withdrawn, Withdraws}
+use Rattle.tap_world.specs.World.{Doing, Published, World, newest, table}
+use Rattle.tap_world.specs.World.Doing.{Backed, Backs, Begun, Changes, Disowned, Opens, Owns, Released, Resizes, Unbacked, Withdraws}
 use Rattle.tap_world.specs.Effect.{Effect, OnFiles, Onward, files_after, only}
 use Rattle.tap_world.specs.Effect.OnFiles.{NoFile, OnFile}
 use Rattle.tap_world.specs.Effect.Onward.{Ends, Goes, Stays}
 use Rattle.tap_world.specs.LineSteps.Change.{Owned}
 use Rattle.tap_world.specs.StepBackend as back
 use Rattle.tap_world.specs.StepTable as tables
-use Rattle.tap_world.specs.Sound.{EachActor, WriterIsHeld, holds}
+use Rattle.tap_world.specs.Sound.{holds}
 use Rattle.tap_world.specs.SoundActors.{can_be}
-use Rattle.tap_world.specs.SoundTable.{Agreed, IsAsFound, asked_by, commanded, expected, of_table, writing}
-use Rattle.tap_sound.proofs.Kit.{either, some_same, then_some}
-use Rattle.tap_sound.proofs.Agreeing.{Files, Fits, disowning, goes_on, owning, reopening, shutting, sizing, steady}
+use Rattle.tap_world.specs.SoundTable.{Agreed, IsAsFound, asked_by, commanded, expected, writing}
+use Rattle.tap_sound.proofs.Kit.{some_same}
+use Rattle.tap_sound.proofs.Agreeing.{Files, Fits, disowning, goes_on, owning, steady}
 use Rattle.tap_sound.proofs.Kept.{effect_files, effect_ops}
-use Rattle.tap_sound.proofs.Publishing.{equal, publishing, sets_rx, sets_tx, unsets_rx, unsets_tx, withdrawing}
+use Rattle.tap_sound.proofs.Publishing.{equal, sets_rx, sets_tx, unsets_rx, unsets_tx}
 use Rattle.tap_sound.proofs.Shapes as shapes
 use Rattle.tap_sound.proofs.Shapes.{Alike, IsLast, Shape}
-use Rattle.tap_sound.proofs.Shapes.Shape.{Approves, BackApproves, BackDrives, BackPublishes, Calling, Learning, Owning, Publishing, Quiet, Reopening, RxTurning, Shutting, Sizing, Touching, Trims, TxTurning, Withdrawing}
+use Rattle.tap_sound.proofs.Shapes.Shape.{Giving, Approves, BackApproves, BackDrives, BackPublishes, Calling, Learning, Owning, Publishing, Quiet, Reopening, RxTurning, Shutting, Sizing, Touching, Trims, TxTurning, Withdrawing}
 use Rattle.tap_sound.proofs.Standing.{answered, first_passed, ring_there}
-use Rattle.tap_sound.proofs.TableFiles.{back_finds, detach_finds, learn_same}
-use Rattle.tap_sound.proofs.Taken.{IsEnding, IsStep, both, when_settled}
-use Rattle.tap_sound.proofs.Views.{Is, View, ending_view, view}
+use Rattle.tap_sound.proofs.TableFiles.{back_finds, detach_finds}
+use Rattle.tap_sound.proofs.Taken.{IsStep, both}
+use Rattle.tap_sound.proofs.Views.{Is, View}
 use Rattle.tap_sound.proofs.Views.View.{Aside, Begins, Closes, Within}
-use Rattle.tap_sound.proofs.Writers.{course_is, doing_after, rx_free, rx_holds, tx_free, tx_holds, unset_refusal}
+use Rattle.tap_sound.proofs.Writers.{doing_after}
 
 -- ---- the table after an event
 

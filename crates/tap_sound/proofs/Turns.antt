@@ -1,6 +1,6 @@
 -- A ring's turn is held by the command that holds it, after every event.
-use Rattle.std.proofs.Common.{◌≡◌, ◌≢◌, ◌⊎◌, ℕ, zero, suc, ◌+◌, ◌<◌, List, [], ◌∷◌, Bool, true, false, Option, Some, None, inl, inr, ⊎_elim, refl, sym, ap, ◌∙◌, subst, true≢false, arith}
-use Rattle.std.specs.Prelude.{if◌then◌else◌, ◌==◌, ◌&&◌, ◌||◌, drop, is_none, is_some, nat_lt, not, slice_get}
+use Rattle.std.proofs.Common.{◌≡◌, ◌≢◌, ◌⊎◌, ℕ, zero, suc, ◌+◌, ◌<◌, List, Bool, true, false, Option, Some, None, inl, inr, ⊎_elim, refl, sym, ap, ◌∙◌, subst, true≢false, arith}
+use Rattle.std.specs.Prelude.{if◌then◌else◌, ◌==◌, ◌&&◌, ◌||◌, drop, is_none, is_some, not, slice_get}
 use Rattle.std.specs.Option.{option_map_or}
 use Rattle.std.proofs.lemmas.Bool.Decides.{eqb_tells, leb_tells}
 use Rattle.guest_mem.specs.Memory.{Contents}
@@ -19,12 +19,12 @@ use Rattle.tap_trace.specs.declared.turn.ChainText.{ChainText}
 use Rattle.tap_world.specs.declared.event.Event.{Event}
 use Rattle.tap_world.specs.declared.event.Found.{Found}
 use Rattle.tap_world.specs.Then.{only_if}
-use Rattle.tap_world.specs.ByNumber.{at, with_at, with_nth}
+use Rattle.tap_world.specs.ByNumber.{at, with_nth}
 use Rattle.vhost_queue.specs.Queue.{Queue}
-use Rattle.tap_world.specs.Guests.{with_queue, Guest, Vhost, is_free, is_free_for, is_ring, turn_of, with_turn}
+use Rattle.tap_world.specs.Guests.{with_queue, Vhost, is_ring, turn_of, with_turn}
 use Rattle.tap_world.specs.Setup.{Numbered, Setup}
 use Rattle.tap_world.specs.World.{Actor, Doing, World, current, newest, table}
-use Rattle.tap_world.specs.World.Doing.{Backed, Backs, Begun, Changes, Disowned, Opened, Owns, Receives, Released, Shrinks, Transmits, Unbacked}
+use Rattle.tap_world.specs.World.Doing.{Backed, Backs, Begun, Changes, Disowned, Opened, Owns, Released, Shrinks, Unbacked}
 use Rattle.tap_world.specs.Effect.{Effect, OnVhosts, Onward, actor_after, ended, files_after, guests_after, vhosts_after, with_effect}
 use Rattle.tap_world.specs.Effect.OnVhosts.{NoVhost, OnVhost}
 use Rattle.tap_world.specs.Effect.Onward.{Ends, Goes, Stays}
@@ -34,19 +34,19 @@ use Rattle.tap_world.specs.StepTurns as rx_turns
 use Rattle.tap_world.specs.StepTransmits as tx_turns
 use Rattle.tap_world.specs.Sound.{EachVhost}
 use Rattle.tap_world.specs.SoundRings.{IsActor, TurnsAreHeld, holds_turn, is_about, ring_in}
-use Rattle.tap_world.specs.SoundActors.{can_be, is_of_rx, sets, unsets}
+use Rattle.tap_world.specs.SoundActors.{can_be, sets, unsets}
 use Rattle.tap_sound.proofs.Kit.{either, some_same, then_some}
 use Rattle.tap_sound.proofs.Calls.{Called, called_is}
 use Rattle.tap_sound.proofs.Calls.Called.{Addr, Base, Features, Num, Untouched}
 use Rattle.tap_sound.proofs.Claims.{with_at_inv}
 use Rattle.tap_sound.proofs.Scripts.{effect_actors}
 use Rattle.tap_sound.proofs.Shapes.{Alike, IsLast, RxWay, Shape, TxWay}
-use Rattle.tap_sound.proofs.Shapes.Shape.{Approves, BackApproves, BackDrives, BackPublishes, Calling, Learning, Owning, Publishing, Quiet, Reopening, RxTurning, Shutting, Sizing, Touching, Trims, TxTurning, Withdrawing}
-use Rattle.tap_sound.proofs.Standing.{answered, first_passed, ring_there}
-use Rattle.tap_sound.proofs.Taken.{IsEnding, IsStep, both, when_settled}
+use Rattle.tap_sound.proofs.Shapes.Shape.{Giving, Approves, BackApproves, BackDrives, BackPublishes, Calling, Learning, Owning, Publishing, Quiet, Reopening, RxTurning, Shutting, Sizing, Touching, Trims, TxTurning, Withdrawing}
+use Rattle.tap_sound.proofs.Standing.{answered}
+use Rattle.tap_sound.proofs.Taken.{IsStep, both, when_settled}
 use Rattle.tap_sound.proofs.Turned.{IsThere, Turned, held_on, is_at, itself, others, others_on, there_on, with_nth_inv, with_nth_there}
 use Rattle.tap_sound.proofs.Turned.Turned.{Gives, Keeps, Rests, Takes}
-use Rattle.tap_sound.proofs.Writers.{course_is, doing_after, is_doing_after, unset_refusal}
+use Rattle.tap_sound.proofs.Writers.{course_is, doing_after, unset_refusal}
 
 -- ---- small things
 
@@ -267,6 +267,8 @@ back_takes w me d vhost ring file v is at_ turn = go (is_ring ring) refl turn re
 
 pub turning : (s : Setup) (w : World) (me seen : ℕ) (d : Doing) (c : Command) (r : Effect) → can_be d c ≡ true → Shape s w me seen d c r → Turning w me d c r
 turning s w me seen d c r can (Quiet o f g v wr alike) = Unmoved (none_changed w r v) (alike_turns d r.onward alike)
+turning s w me seen d c r can (Giving vhost file t told o f g v wr h) =
+    Unmoved (none_changed w r v) (ap (λ (q : Onward). holds_turn (doing_after q d)) h.goes ∙ sym (ap holds_turn h.doing))
 turning s w me seen d c r can (Trims file n m k f is eq) = subst (Turning w me d c) eq (Unmoved (λ n v at_. (v, at_, refl, refl)) (sym (ap holds_turn is)))
 turning s w me seen d c r can (Approves x is of free no_ eq) = subst (Turning w me d c) eq (Unmoved (λ n v at_. (v, at_, refl, refl))
     (course_is (λ (e : Doing). holds_turn e ≡ false) (table s w) x (λ file. refl) (λ file. refl) (λ file k. refl) refl ∙ sym (ap holds_turn is)))

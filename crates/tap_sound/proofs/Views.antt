@@ -1,5 +1,5 @@
 -- The command that holds the writer, before an event and after it.
-use Rattle.std.proofs.Common.{◌≡◌, ◌≢◌, ◌⊎◌, ℕ, zero, suc, List, [], ◌∷◌, Bool, true, false, Option, Some, None, inl, inr, ⊎_elim, refl, sym, ap, ◌∙◌, subst, true≢false}
+use Rattle.std.proofs.Common.{◌≡◌, ◌≢◌, ℕ, zero, suc, List, [], ◌∷◌, Bool, true, false, Option, Some, None, refl, sym, ap, ◌∙◌, subst, true≢false}
 use Rattle.std.specs.Prelude.{slice_get}
 use Rattle.std.specs.Option.{option_map_or}
 use Rattle.scen_words.specs.declared.command.Command.{Command}
@@ -14,11 +14,10 @@ use Rattle.tap_world.specs.Effect.Onward.{Ends, Goes, Stays}
 use Rattle.tap_world.specs.Sound.{EachActor, WriterIsHeld, holds}
 use Rattle.tap_world.specs.SoundActors.{can_be}
 use Rattle.tap_world.specs.SoundTable.{commanded, writing, writer_of}
-use Rattle.tap_sound.proofs.Kit.{some_same}
 use Rattle.tap_sound.proofs.Scripts.{effect_actors}
 use Rattle.tap_sound.proofs.Shapes.{Shape}
 use Rattle.tap_sound.proofs.Taken.{IsEnding, IsStep}
-use Rattle.tap_sound.proofs.Turned.{Turned, at_is, is_at, itself, with_nth_inv}
+use Rattle.tap_sound.proofs.Turned.{Turned, at_is, is_at, itself}
 use Rattle.tap_sound.proofs.Turned.Turned.{Gives, Keeps, Rests, Takes}
 use Rattle.tap_sound.proofs.Writers.{doing_after, effect_writer, holding, is_doing_after}
 
@@ -61,7 +60,7 @@ now_after (Ends seen x) a n at_ h = absurd (true≢false (sym h))
 now_after (Stays f) a n at_ h = now_of a n at_
 
 -- the actor that acted, after it
-acted : (s : Setup) (w : World) (x : Event) (u : World) (t : IsStep s w x u) → slice_get t.between.actors x.actor ≡ Some (actor_after t.effect.onward t.actor)
+pub acted : (s : Setup) (w : World) (x : Event) (u : World) (t : IsStep s w x u) → slice_get t.between.actors x.actor ≡ Some (actor_after t.effect.onward t.actor)
 acted s w x u t =
     ap (λ (q : List Actor). slice_get q x.actor) (effect_actors t.effect x.actor t.actor x.command w t.between t.made)
     ∙ ap (λ (o : Option Actor). o) (here x.actor w.actors t.actor t.found)
@@ -72,7 +71,7 @@ acted s w x u t =
     here (suc n) (y ∷ ys) a e = here n ys a e
 
 -- the others are as they were
-other_still : (n i : ℕ) (new : Actor) (xs : List Actor) → n ≢ i → slice_get (with_nth n new xs) i ≡ slice_get xs i
+pub other_still : (n i : ℕ) (new : Actor) (xs : List Actor) → n ≢ i → slice_get (with_nth n new xs) i ≡ slice_get xs i
 other_still n i new [] no_ = refl
 other_still zero zero new (y ∷ ys) no_ = absurd (no_ refl)
 other_still zero (suc i) new (y ∷ ys) no_ = refl

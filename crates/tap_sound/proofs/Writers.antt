@@ -1,6 +1,6 @@
 -- The writer is held by the command that holds it, after every event.
-use Rattle.std.proofs.Common.{◌≡◌, ◌≢◌, ◌⊎◌, ℕ, List, [], ◌∷◌, Bool, true, false, Option, Some, None, inl, inr, ⊎_elim, refl, sym, ap, ◌∙◌, subst, true≢false}
-use Rattle.std.specs.Prelude.{if◌then◌else◌, ◌==◌, ◌||◌, drop, is_none, is_some, slice_get}
+use Rattle.std.proofs.Common.{◌≡◌, ℕ, List, true, false, Option, Some, None, inl, inr, ⊎_elim, refl, sym, ap, ◌∙◌, subst, true≢false}
+use Rattle.std.specs.Prelude.{◌==◌, ◌||◌, drop, is_none, slice_get}
 use Rattle.guest_mem.specs.Memory.{Contents}
 use Rattle.tap_steer.specs.declared.operation.Op.{Op}
 use Rattle.tap_steer.specs.declared.operation.Op.TheVariants as op
@@ -21,11 +21,11 @@ use Rattle.tap_trace.specs.declared.turn.ChainText.{ChainText}
 use Rattle.tap_world.specs.declared.event.Event.{Event}
 use Rattle.tap_world.specs.declared.event.Found.{Found}
 use Rattle.tap_world.specs.ByNumber.{with_nth}
-use Rattle.tap_world.specs.Guests.{Guest, Vhost}
+use Rattle.tap_world.specs.Guests.{Vhost}
 use Rattle.tap_world.specs.Setup.{Setup}
 use Rattle.tap_world.specs.World.{Actor, Doing, World, table}
-use Rattle.tap_world.specs.World.Doing.{Backed, Backs, Begun, Changes, Disowned, Opened, Opens, Owns, Receives, Released, Shrinks, Transmits, Unbacked, Withdraws}
-use Rattle.tap_world.specs.Effect.{Effect, Ending, Onward, actor_after, files_after, guests_after, vhosts_after, with_effect}
+use Rattle.tap_world.specs.World.Doing.{Backed, Backs, Begun, Changes, Disowned, Opened, Opens, Owns, Released, Shrinks, Unbacked, Withdraws}
+use Rattle.tap_world.specs.Effect.{Effect, Onward, actor_after, files_after, guests_after, with_effect}
 use Rattle.tap_world.specs.Effect.Onward.{Ends, Goes, Stays}
 use Rattle.tap_world.specs.StepBackend as back
 use Rattle.tap_world.specs.StepTable as tables
@@ -37,11 +37,11 @@ use Rattle.tap_world.specs.SoundActors.{can_be}
 use Rattle.tap_sound.proofs.Kit.{either, some_same, then_some}
 use Rattle.tap_sound.proofs.Scripts.{effect_actors}
 use Rattle.tap_sound.proofs.Shapes.{Alike, IsLast, RxWay, Shape, TxWay}
-use Rattle.tap_sound.proofs.Shapes.Shape.{Approves, BackApproves, BackDrives, BackPublishes, Calling, Learning, Owning, Publishing, Quiet, Reopening, RxTurning, Shutting, Sizing, Touching, Trims, TxTurning, Withdrawing}
+use Rattle.tap_sound.proofs.Shapes.Shape.{Giving, Approves, BackApproves, BackDrives, BackPublishes, Calling, Learning, Owning, Publishing, Quiet, Reopening, RxTurning, Shutting, Sizing, Touching, Trims, TxTurning, Withdrawing}
 use Rattle.tap_sound.proofs.Standing.{answered}
-use Rattle.tap_sound.proofs.Taken.{IsEnding, IsStep, when_settled}
-use Rattle.tap_sound.proofs.Turned.{IsThere, Turned, held_on, is_at, itself, others, others_on, there_on, with_nth_inv, with_nth_there}
-use Rattle.tap_sound.proofs.Turned.Turned.{Gives, Keeps, Rests, Takes}
+use Rattle.tap_sound.proofs.Taken.{IsStep, when_settled}
+use Rattle.tap_sound.proofs.Turned.{IsThere, Turned, held_on, is_at, others, others_on, there_on, with_nth_inv}
+use Rattle.tap_sound.proofs.Turned.Turned.{Gives, Rests, Takes}
 
 -- how far the command has come after an event
 abbrev pub doing_after : Onward → Doing → Doing
@@ -141,6 +141,8 @@ tx_free d file t told v (inr is) = ap holds is.0
 
 pub holding : (s : Setup) (w : World) (me seen : ℕ) (d : Doing) (c : Command) (r : Effect) → can_be d c ≡ true → Shape s w me seen d c r → Holding w me d r
 holding s w me seen d c r can (Quiet o f g v wr alike) = Rests wr (alike_holds d r.onward alike)
+holding s w me seen d c r can (Giving vhost file t told o f g v wr h) =
+    Rests wr (ap (λ (q : Onward). holds (doing_after q d)) h.goes ∙ sym (ap holds h.doing))
 holding s w me seen d c r can (Trims file n m k f is eq) = subst (Holding w me d) eq (Rests refl (sym (ap holds is)))
 holding s w me seen d c r can (Approves x is of free no_ eq) = subst (Holding w me d) eq (Takes free refl (course_is (λ (e : Doing). holds e ≡ true) (table s w) x (λ file. refl) (λ file. refl) (λ file k. refl) refl))
 holding s w me seen d c r can (BackApproves vhost ring file v is cis at_ free turn no_ eq) = subst (Holding w me d) eq (Takes free refl refl)

@@ -8,3 +8,5 @@ pub mod Room
 pub mod Hand
 pub mod Tabled
 pub mod Fresh
+pub mod Served
+pub mod Soundness

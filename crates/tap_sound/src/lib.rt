@@ -16,6 +16,9 @@ ghost use Rattle.tap_sound.specs.Laws.{AllIsDone, EventsAreScripts, EventsBeginS
 ghost use Rattle.tap_sound.specs.Names.{NamesAreKept, NamesStandAfterRuns, NamesStandInRuns};
 ghost use Rattle.tap_sound.specs.Reached.{PhaseIsKept, ReachedIsKept, RunIsKept};
 ghost use Rattle.tap_sound.specs.Room.{RoomIsAlwaysKept};
+ghost use Rattle.tap_sound.specs.Served.{RingsAreKept};
+ghost use Rattle.tap_sound.specs.Soundness.{SoundnessIsKept};
+ghost use Rattle.tap_sound.specs.Tabled.{TableIsKept};
 ghost use Rattle.tap_sound.specs.Used.{UsedIsCounted};
 
 /// In a run the events of each actor are the scripts of its commands, one after another; on the way to its end the last
@@ -76,6 +79,20 @@ pub fn holders_are_kept()
     ensures { HoldersAreKept }
 {}
 
+/// Every event keeps what files and rings have of the queue table, but for the command that holds the writer.
+pub fn table_is_kept()
+    ensures { TableIsKept }
+{}
+
+/// Every event but four keeps that the rings of vhosts are in order, and stand with the turns that serve them: a call on a
+/// vhost, and the events of a turn that fetch, copy and publish.
+pub fn rings_are_kept()
+    ensures { RingsAreKept }
+{
+    vring_turns::receive_standing();
+    vring_turns::transmit_standing();
+}
+
 /// So these parts of soundness hold in each world that a run ends in, and in each world on the way.
 pub fn run_is_kept()
     ensures whole { RunIsKept }
@@ -107,3 +124,11 @@ pub fn hand_is_owners()
 pub fn names_are_new()
     ensures { NamesAreNew }
 {}
+
+/// So each of these events keeps a sound world sound, in all ten parts.
+pub fn soundness_is_kept()
+    ensures { SoundnessIsKept }
+{
+    vring_turns::receive_standing();
+    vring_turns::transmit_standing();
+}

@@ -7,6 +7,7 @@ use Rattle.vhost_queue.specs.Positions.{IsIdle}
 use Rattle.vhost_queue.specs.Queue.{IsGood, IsQueueSize}
 use Rattle.vhost_dev.specs.Settings.{RingSettings, ring_at}
 use Rattle.vhost_dev.specs.Lists.{AreInOrder}
+use Rattle.vring_turns.specs.Standing.{RxStands, TxStands}
 use Rattle.tap_world.specs.Then.{only_if}
 use Rattle.tap_world.specs.ByNumber.{at}
 use Rattle.tap_world.specs.Guests.{Guest, Vhost, is_ring, turn_of}
@@ -46,15 +47,28 @@ is_about vhost ring None = false
 is_about vhost ring (Some c) =
     option_map_or (λ (r : ℕ × ℕ). r.0 == vhost && r.1 == ring) (ring_in c.command) false
 
--- But for the turn that serves it nothing of a ring is served and not published; and a ring that is served has a
--- backend.
+-- a turn under way and its ring's queue stand together as between two of its steps
+abbrev pub StandsWith : Doing → Vhost → Type 0
+StandsWith (Receives file t) v = RxStands t v.settings.rx.queue
+StandsWith (Transmits file t chains) v = TxStands t v.settings.tx.queue
+StandsWith (Given file t chains frame) v = TxStands t v.settings.tx.queue
+StandsWith (Teaches file t chains frame) v = TxStands t v.settings.tx.queue
+StandsWith doing v = Unit {0}
+
+-- this actor's command serves the ring
+abbrev pub Serves : ℕ → ℕ → Actor → Type 0
+Serves vhost ring a = (serves a.doing ≡ true) × (is_about vhost ring (current a.script) ≡ true)
+
+-- Where no command serves a ring, nothing of it is served and not published; and a ring that is served has a backend,
+-- and stands with its turn.
 pub record IsServed (w : World) (vhost : ℕ) (v : Vhost) : Type 0 where
-  pub idle : (ring : ℕ)
-      → ((actor : ℕ) (a : Actor) → turn_of ring v ≡ Some actor → slice_get w.actors actor ≡ Some a
-      → serves a.doing ≡ false)
+  pub idle : (ring : ℕ) → ring < 2
+      → ((actor : ℕ) (a : Actor) → slice_get w.actors actor ≡ Some a → Serves vhost ring a → ⊥)
       → IsIdle (ring_at ring v.settings).queue.positions
-  pub backed : (ring actor : ℕ) (a : Actor) → slice_get w.actors actor ≡ Some a → serves a.doing ≡ true
-      → is_about vhost ring (current a.script) ≡ true → is_some (ring_at ring v.settings).file ≡ true
+  pub backed : (ring actor : ℕ) (a : Actor) → slice_get w.actors actor ≡ Some a → Serves vhost ring a
+      → is_some (ring_at ring v.settings).file ≡ true
+  pub stands : (ring actor : ℕ) (a : Actor) → slice_get w.actors actor ≡ Some a → Serves vhost ring a
+      → StandsWith a.doing v
 
 -- ---- 10: turns
 
