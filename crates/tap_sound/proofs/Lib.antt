@@ -58,3 +58,4 @@ mod ServedOn
 mod RingEvents
 mod RingsKept
 mod Soundness
+mod WorldsKept

@@ -10,3 +10,4 @@ pub mod Tabled
 pub mod Fresh
 pub mod Served
 pub mod Soundness
+pub mod Worlds
