@@ -14,7 +14,7 @@ use Rattle.tap_world.specs.declared.event.Heard.{Heard}
 use Rattle.tap_world.specs.Then.{◌>>=◌, only_if}
 use Rattle.tap_world.specs.ByNumber.{with_nth}
 use Rattle.tap_world.specs.Setup.{Numbered, Setup, script_in, setup_of}
-use Rattle.tap_world.specs.World.{Actor, Doing, World, current, newest}
+use Rattle.tap_world.specs.World.{Actor, Doing, World, newest}
 use Rattle.tap_world.specs.World.Doing.{Begun, Given, Hosts, Routed, Teaches, Transmits}
 use Rattle.tap_world.specs.Effect.{Effect, Ending, Onward, actor_after, ended}
 use Rattle.tap_world.specs.Effect.Onward.{Ends, Goes, Stays}
@@ -29,7 +29,7 @@ use Rattle.tap_sound.proofs.Kit.{some_same, then_some, where_some}
 use Rattle.tap_sound.proofs.Scripts.{effect_actors, first_of_list}
 use Rattle.tap_sound.proofs.Stand.{stands_are_kept}
 use Rattle.tap_sound.proofs.Reached.{new_stands}
-use Rattle.tap_sound.proofs.Taken.{IsEnding, IsStep, both, if_some, step_is, when_settled}
+use Rattle.tap_sound.proofs.Taken.{IsEnding, IsStep, if_some, row_is, step_is, when_settled}
 use Rattle.tap_sound.proofs.NamesTimes.{effect_times}
 use Rattle.tap_sound.proofs.NamesKept.{none_placed}
 use Rattle.tap_sound.proofs.FreshRows.{Fresh, FreshAfter, FreshTurn, OneName, Tells, part, row_is_fresh}
@@ -295,13 +295,10 @@ none_stands s m le = let z = none_placed m s.files in omega (arith, z)
 
 row_new : (s : Setup) (w : World) (x : Event) (r : Effect) (to : ℕ) → IsNew w to → row_of s w x ≡ Some r → are_new w (names_of r) ≡ true
 row_new s w x r to h e =
-    let a = then_some (slice_get w.actors x.actor) _ r e in
-    let c = then_some (current a.0.script) _ r a.2 in
-    let i = if_some _ _ r c.2 in
-    let k = both _ _ i.0 in
-    let f = fresh_now w to x.actor a.0 c.0 h.1 a.1 c.1 in
-    let q = where_some (Tells (Free w) (Free w) x.actor c.0.number a.0.doing) _ r
-    (row_is_fresh (Free w) (Free w) x.actor c.0.number s w x.kind a.0 c.0.command k.1 (can_now w x.actor a.0 c.0 h.0 a.1 c.1)) i.1 f.2.1 in
+    let b = row_is s w x r e in
+    let f = fresh_now w to x.actor b.actor b.now h.1 b.found b.current_is in
+    let q = where_some (Tells (Free w) (Free w) x.actor b.now.number b.actor.doing) _ r
+    (row_is_fresh (Free w) (Free w) x.actor b.now.number s w x.kind b.actor b.now.command b.next (can_now w x.actor b.actor b.now h.0 b.found b.current_is)) b.is_row f.2.1 in
     go (names_of r) q.0
   where
     go : (ns : List Name) {me n : ℕ} → OneName (Free w) (Free w) me n ns → are_new w ns ≡ true
