@@ -48,6 +48,9 @@ mod TableKept
 mod TableEvents
 mod Backers
 mod BackerEvents
+mod FreshTurns
+mod FreshRows
+mod FreshKept
 mod Tabled
 mod RingSteps
 mod Serving
@@ -55,3 +58,4 @@ mod ServedOn
 mod RingEvents
 mod RingsKept
 mod Soundness
+mod WorldsKept

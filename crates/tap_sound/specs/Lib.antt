@@ -7,5 +7,7 @@ pub mod Names
 pub mod Room
 pub mod Hand
 pub mod Tabled
+pub mod Fresh
 pub mod Served
 pub mod Soundness
+pub mod Worlds
