@@ -55,3 +55,4 @@ mod ServedOn
 mod RingEvents
 mod RingsKept
 mod Soundness
+mod StepFacts
