@@ -56,3 +56,4 @@ mod RingEvents
 mod RingsKept
 mod Soundness
 mod StepFacts
+mod ServedMoved
