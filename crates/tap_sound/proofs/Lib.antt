@@ -57,3 +57,4 @@ mod RingsKept
 mod Soundness
 mod StepFacts
 mod ServedMoved
+mod TurnRings

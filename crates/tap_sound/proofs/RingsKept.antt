@@ -57,7 +57,7 @@ record Left (s : Setup) (w : World) (x : Event) (u : World) (t : IsStep s w x u)
   pub guests : OldGuests w t.between.guests
 
 module _ (s : Setup) (w : World) (x : Event) (u : World) (t : IsStep s w x u) where
-  vhosts_on : (o : OnVhosts) → t.effect.vhosts ≡ o → t.between.vhosts ≡ vhosts_after o w.vhosts
+  pub vhosts_on : (o : OnVhosts) → t.effect.vhosts ≡ o → t.between.vhosts ≡ vhosts_after o w.vhosts
   vhosts_on o is = effect_vhosts t.effect x.actor t.actor x.command w t.between t.made ∙ ap (λ (q : OnVhosts). vhosts_after q w.vhosts) is
 
   no_rings : t.effect.vhosts ≡ NoVhost → OldRings w t.between.vhosts
@@ -79,7 +79,7 @@ module _ (s : Setup) (w : World) (x : Event) (u : World) (t : IsStep s w x u) wh
   same_guests : t.effect.guests ≡ NoGuest → OldGuests w t.between.guests
   same_guests is = no_guests w x.actor x.command t.between.guests (guests_on NoGuest is)
 
-  a_guest : (guest : ℕ) (m : Contents) (step : Option Kind) (g : Guest) → t.effect.guests ≡ OnGuest guest m step → at w.guests guest ≡ Some g → m.regions ≡ g.memory.regions → OldGuests w t.between.guests
+  pub a_guest : (guest : ℕ) (m : Contents) (step : Option Kind) (g : Guest) → t.effect.guests ≡ OnGuest guest m step → at w.guests guest ≡ Some g → m.regions ≡ g.memory.regions → OldGuests w t.between.guests
   a_guest guest m step g is at_ same = one_guest w x.actor x.command guest m step g t.between.guests at_ same (guests_on (OnGuest guest m step) is)
 
   -- an event of a command that doesn't serve
@@ -90,11 +90,11 @@ module _ (s : Setup) (w : World) (x : Event) (u : World) (t : IsStep s w x u) wh
     guests = same_guests (ap (λ (q : Effect). q.guests) (sym eq) ∙ none);
   }
 
-  on_vhosts : (r : Effect) → r ≡ t.effect → t.effect.vhosts ≡ r.vhosts
+  pub on_vhosts : (r : Effect) → r ≡ t.effect → t.effect.vhosts ≡ r.vhosts
   on_vhosts r is = ap (λ (q : Effect). q.vhosts) (sym is)
 
   -- the command serves its vhost's ring
-  mine_of : (vhost ring : ℕ) → serves t.actor.doing ≡ true → about vhost ring t.now.command ≡ true → Serves vhost ring t.actor
+  pub mine_of : (vhost ring : ℕ) → serves t.actor.doing ≡ true → about vhost ring t.now.command ≡ true → Serves vhost ring t.actor
   mine_of vhost ring sv ab = (sv, ap (is_about vhost ring) t.current_is ∙ ab)
 
   back_publishes : (d : Doing) (vhost ring : ℕ) (asked : Option ℕ) (r : Effect) → r ≡ t.effect → back_steps.publishes_back w d (command.Backend vhost ring asked) ≡ Some r
@@ -149,7 +149,7 @@ tx_stage s w x u t leaves file q told v (inl is) =
 tx_stage s w x u t leaves file q told v (inr is) = ap (λ (y : TxTurn). tx_changes y.stage) is.4
 
 -- how a turn stands with its ring before the event
-rx_stands : TurnLaws → (s : Setup) (w : World) (x : Event) (u : World) (t : IsStep s w x u) → EachVhost w (TurnsAreHeld w) → EachVhost w (IsServed w)
+pub rx_stands : TurnLaws → (s : Setup) (w : World) (x : Event) (u : World) (t : IsStep s w x u) → EachVhost w (TurnsAreHeld w) → EachVhost w (IsServed w)
     → (vhost file : ℕ) (q : RxTurn) (v : Vhost) → t.now.command ≡ command.RxTurn vhost → at w.vhosts vhost ≡ Some v → RxWay x.actor t.actor.doing file q v → RxStands q v.settings.rx.queue
 rx_stands laws s w x u t turns served vhost file q v cis at_ (inl is) =
     subst (λ (d : Doing). StandsWith d v) is
@@ -160,7 +160,7 @@ rx_stands laws s w x u t turns served vhost file q v cis at_ (inr is) =
     (laws.rx_begin v.settings.mrg (hdr_of v.settings) v.settings.rx.queue (hdr_more v.settings)
     ((served vhost v at_).idle 0 (omega arith) (unserved w vhost 0 v (turns vhost v at_) (omega arith) (free_none 0 v is.2))))
 
-tx_stands : TurnLaws → (s : Setup) (w : World) (x : Event) (u : World) (t : IsStep s w x u) → EachVhost w (TurnsAreHeld w) → EachVhost w (IsServed w)
+pub tx_stands : TurnLaws → (s : Setup) (w : World) (x : Event) (u : World) (t : IsStep s w x u) → EachVhost w (TurnsAreHeld w) → EachVhost w (IsServed w)
     → (vhost file : ℕ) (q : TxTurn) (told : List ChainText) (v : Vhost) → t.now.command ≡ command.TxTurn vhost → at w.vhosts vhost ≡ Some v → TxWay t.actor.doing file q told v
     → TxStands q v.settings.tx.queue
 tx_stands laws s w x u t turns served vhost file q told v cis at_ (inl is) =
@@ -172,11 +172,11 @@ tx_stands laws s w x u t turns served vhost file q told v cis at_ (inr is) =
     (laws.tx_begin (hdr_of v.settings) is.3 v.settings.tx.queue
     ((served vhost v at_).idle 1 (omega arith) (unserved w vhost 1 v (turns vhost v at_) (omega arith) (free_none 1 v is.2))))
 
-rx_was : (me : ℕ) (d : Doing) (file : ℕ) (q : RxTurn) (v : Vhost) → RxWay me d file q v → ((serves d ≡ true) × (d ≡ d)) ⊎ ((serves d ≡ false) × (v.settings.rx.file ≡ Some file))
+pub rx_was : (me : ℕ) (d : Doing) (file : ℕ) (q : RxTurn) (v : Vhost) → RxWay me d file q v → ((serves d ≡ true) × (d ≡ d)) ⊎ ((serves d ≡ false) × (v.settings.rx.file ≡ Some file))
 rx_was me d file q v (inl is) = inl (ap serves is, refl)
 rx_was me d file q v (inr is) = inr (ap serves is.0, is.1)
 
-tx_was : (d : Doing) (file : ℕ) (q : TxTurn) (told : List ChainText) (v : Vhost) → TxWay d file q told v → ((serves d ≡ true) × (d ≡ d)) ⊎ ((serves d ≡ false) × (v.settings.tx.file ≡ Some file))
+pub tx_was : (d : Doing) (file : ℕ) (q : TxTurn) (told : List ChainText) (v : Vhost) → TxWay d file q told v → ((serves d ≡ true) × (d ≡ d)) ⊎ ((serves d ≡ false) × (v.settings.tx.file ≡ Some file))
 tx_was d file q told v (inl is) = inl (ap serves is, refl)
 tx_was d file q told v (inr is) = inr (ap serves is.0, is.1)
 
