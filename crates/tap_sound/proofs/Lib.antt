@@ -58,3 +58,4 @@ mod Soundness
 mod StepFacts
 mod ServedMoved
 mod TurnRings
+mod EventRings

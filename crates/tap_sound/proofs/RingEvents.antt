@@ -98,46 +98,6 @@ tx_only vhost n ring e = let b = both (vhost == n) (1 == ring) e in (equal vhost
 pub this_one : (w : World) (vhost n : ℕ) (v u : Vhost) → vhost ≡ n → at w.vhosts vhost ≡ Some v → at w.vhosts n ≡ Some u → v ≡ u
 this_one w vhost n v u same a b = some_same v u (sym a ∙ ap (at w.vhosts) same ∙ b)
 
-pub rx_course : (w : World) (seen vhost file : ℕ) (d : Doing) (v : Vhost) (u : RxTurn) (q : Queue) (f : Found) → at w.vhosts vhost ≡ Some v → q ≡ v.settings.rx.queue
-    → ((serves d ≡ true) × (d ≡ d)) ⊎ ((serves d ≡ false) × (v.settings.rx.file ≡ Some file)) → RxStands u q → (o : Option End) → rx_turns.rx_over u.stage ≡ o
-    → Course w d (rx_turns.rx_onward seen file u f o) (command.RxTurn vhost)
-rx_course w seen vhost file d v u q f at_ same (inl was) stands None over =
-    On (sym was.0) tt (λ n ring y got ab k. subst (λ (z : Vhost). RxStands u z.settings.rx.queue) (this_one w vhost n v y (rx_only vhost n ring ab).0 at_ got) (subst (RxStands u) same stands))
-rx_course w seen vhost file d v u q f at_ same (inr was) stands None over =
-    Starts was.0 tt (λ n ring y got ab.
-    let only_ = rx_only vhost n ring ab in
-    let it = this_one w vhost n v y only_.0 at_ got in (
-      subst (λ (z : Vhost). is_some (ring_at ring z.settings).file ≡ true) it
-          (subst (λ (k : ℕ). is_some (ring_at k v.settings).file ≡ true) only_.1 (ap (λ (o : Option ℕ). is_some o) was.1)),
-      subst (λ (z : Vhost). RxStands u z.settings.rx.queue) it (subst (RxStands u) same stands),
-    ))
-rx_course w seen vhost file d v u q f at_ same was stands (Some e) over =
-    Over refl (λ n ring y got below ab.
-    let only_ = rx_only vhost n ring ab in
-    let it = this_one w vhost n v y only_.0 at_ got in
-    subst (λ (z : Vhost). IsIdle (ring_at ring z.settings).queue.positions) it
-    (subst (λ (k : ℕ). IsIdle (ring_at k v.settings).queue.positions) only_.1 (subst (λ (z : Queue). IsIdle z.positions) same (rx_idle u q u.stage e refl over stands))))
-
-pub tx_course : (w : World) (seen vhost file : ℕ) (d : Doing) (v : Vhost) (u : TxTurn) (told : List ChainText) (q : Queue) (f : Found) → at w.vhosts vhost ≡ Some v → q ≡ v.settings.tx.queue
-    → ((serves d ≡ true) × (d ≡ d)) ⊎ ((serves d ≡ false) × (v.settings.tx.file ≡ Some file)) → TxStands u q → (o : Option End) → tx_turns.tx_over u.stage ≡ o
-    → Course w d (tx_turns.tx_onward seen file u told f o) (command.TxTurn vhost)
-tx_course w seen vhost file d v u told q f at_ same (inl was) stands None over =
-    On (sym was.0) tt (λ n ring y got ab k. subst (λ (z : Vhost). TxStands u z.settings.tx.queue) (this_one w vhost n v y (tx_only vhost n ring ab).0 at_ got) (subst (TxStands u) same stands))
-tx_course w seen vhost file d v u told q f at_ same (inr was) stands None over =
-    Starts was.0 tt (λ n ring y got ab.
-    let only_ = tx_only vhost n ring ab in
-    let it = this_one w vhost n v y only_.0 at_ got in (
-      subst (λ (z : Vhost). is_some (ring_at ring z.settings).file ≡ true) it
-          (subst (λ (k : ℕ). is_some (ring_at k v.settings).file ≡ true) only_.1 (ap (λ (o : Option ℕ). is_some o) was.1)),
-      subst (λ (z : Vhost). TxStands u z.settings.tx.queue) it (subst (TxStands u) same stands),
-    ))
-tx_course w seen vhost file d v u told q f at_ same was stands (Some e) over =
-    Over refl (λ n ring y got below ab.
-    let only_ = tx_only vhost n ring ab in
-    let it = this_one w vhost n v y only_.0 at_ got in
-    subst (λ (z : Vhost). IsIdle (ring_at ring z.settings).queue.positions) it
-    (subst (λ (k : ℕ). IsIdle (ring_at k v.settings).queue.positions) only_.1 (subst (λ (z : Queue). IsIdle z.positions) same (tx_idle u q u.stage e refl over stands))))
-
 -- ---- vhosts and guests
 
 pub with_at_get : {A : Type 0} (n : ℕ) (new : A) (xs : List (Option A)) (k : ℕ) (a : A) → at xs k ≡ Some a
@@ -197,20 +157,6 @@ tx_rings o q v same = (refl, refl, ap (λ (y : Queue). record v.settings.tx { qu
 
 pub no_change : (k j : EventKind) → leaves_rings k ≡ true → leaves_rings j ≡ false → is_kind k (Some j) ≡ true → ⊥
 no_change k j a b e = true≢false (sym a ∙ ap leaves_rings (same_kind k j e) ∙ b)
-
-pub rx_stays : (w : World) (file : ℕ) (st : RxStage) (k : EventKind) → leaves_rings k ≡ true → is_kind k (rx_next_kind w file st) ≡ true → rx_changes st ≡ false
-rx_stays w file rx.Fetch k a e = absurd (no_change k event.Fetch a refl e)
-rx_stays w file rx.FetchAgain k a e = absurd (no_change k event.Fetch a refl e)
-rx_stays w file rx.Copy k a e = absurd (no_change k event.Copy a refl e)
-rx_stays w file (rx.Publish end) k a e = absurd (no_change k event.PublishUsed a refl e)
-rx_stays w file st k a e = refl
-
-pub tx_stays : (st : TxStage) (k : EventKind) → leaves_rings k ≡ true → is_kind k (tx_next_kind st) ≡ true → tx_changes st ≡ false
-tx_stays tx.Fetch k a e = absurd (no_change k event.Fetch a refl e)
-tx_stays tx.FetchAgain k a e = absurd (no_change k event.Fetch a refl e)
-tx_stays tx.Copy k a e = absurd (no_change k event.Copy a refl e)
-tx_stays (tx.Publish end) k a e = absurd (no_change k event.PublishUsed a refl e)
-tx_stays st k a e = refl
 
 -- a call is made at its Drive
 pub call_drives : (w : World) (c : Command) (vhost : ℕ) → control.vhost_of c ≡ Some vhost → first_kind w c ≡ event.Drive

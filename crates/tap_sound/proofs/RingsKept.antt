@@ -41,7 +41,7 @@ use Rattle.tap_sound.proofs.Writers.{course_is}
 use Rattle.tap_world.specs.declared.event.Heard.{Heard}
 use Rattle.tap_world.specs.Step.{step}
 use Rattle.tap_sound.proofs.Held.{shape_here}
-use Rattle.tap_sound.proofs.RingEvents.{alike_course, back_course, call_drives, effect_guests, last_serves, no_change, no_guests, none_rings, one_guest, one_rings, own_course, rx_course, rx_rings, rx_stays, this_one, turn_rings, tx_course, tx_only, tx_rings, tx_stays, free_none}
+use Rattle.tap_sound.proofs.RingEvents.{alike_course, back_course, call_drives, effect_guests, last_serves, no_change, no_guests, none_rings, one_guest, one_rings, own_course, this_one, turn_rings, tx_only, free_none}
 use Rattle.scen_words.specs.declared.command.Command.TheVariants as command
 use Rattle.tap_world.specs.declared.event.EventKind.TheVariants as event
 use Rattle.tap_world.specs.StepBackend as back_steps
@@ -51,7 +51,7 @@ use Rattle.tap_steer.specs.declared.operation.Op.TheVariants as op
 use Rattle.tap_world.specs.declared.event.Found.TheVariants as found
 
 -- what such an event leaves
-record Left (s : Setup) (w : World) (x : Event) (u : World) (t : IsStep s w x u) : Type 0 where
+pub record Left (s : Setup) (w : World) (x : Event) (u : World) (t : IsStep s w x u) : Type 0 where
   pub course : Course w t.actor.doing t.effect.onward t.now.command
   pub rings : OldRings w t.between.vhosts
   pub guests : OldGuests w t.between.guests
@@ -135,19 +135,6 @@ module _ (s : Setup) (w : World) (x : Event) (u : World) (t : IsStep s w x u) wh
       subst (λ (z : Vhost). TxStands k.made.0.turn z.settings.tx.queue) it
       (subst (TxStands k.made.0.turn) leaves.0 (tx_stands_on laws q k.v k.g.memory k.made k.step stands))))
 
--- the stage of a turn that this event doesn't change
-rx_stage : (s : Setup) (w : World) (x : Event) (u : World) (t : IsStep s w x u) → leaves_rings x.kind ≡ true → (file : ℕ) (q : RxTurn) (v : Vhost) → RxWay x.actor t.actor.doing file q v
-    → rx_changes q.stage ≡ false
-rx_stage s w x u t leaves file q v (inl is) =
-    rx_stays w file q.stage x.kind leaves (subst (λ (d : Doing). is_kind x.kind (next_kind w d t.now.command) ≡ true) is t.next)
-rx_stage s w x u t leaves file q v (inr is) = ap (λ (y : RxTurn). rx_changes y.stage) is.3
-
-tx_stage : (s : Setup) (w : World) (x : Event) (u : World) (t : IsStep s w x u) → leaves_rings x.kind ≡ true → (file : ℕ) (q : TxTurn) (told : List ChainText) (v : Vhost)
-    → TxWay t.actor.doing file q told v → tx_changes q.stage ≡ false
-tx_stage s w x u t leaves file q told v (inl is) =
-    tx_stays q.stage x.kind leaves (subst (λ (d : Doing). is_kind x.kind (next_kind w d t.now.command) ≡ true) is t.next)
-tx_stage s w x u t leaves file q told v (inr is) = ap (λ (y : TxTurn). tx_changes y.stage) is.4
-
 -- how a turn stands with its ring before the event
 pub rx_stands : TurnLaws → (s : Setup) (w : World) (x : Event) (u : World) (t : IsStep s w x u) → EachVhost w (TurnsAreHeld w) → EachVhost w (IsServed w)
     → (vhost file : ℕ) (q : RxTurn) (v : Vhost) → t.now.command ≡ command.RxTurn vhost → at w.vhosts vhost ≡ Some v → RxWay x.actor t.actor.doing file q v → RxStands q v.settings.rx.queue
@@ -180,88 +167,60 @@ pub tx_was : (d : Doing) (file : ℕ) (q : TxTurn) (told : List ChainText) (v : 
 tx_was d file q told v (inl is) = inl (ap serves is, refl)
 tx_was d file q told v (inr is) = inr (ap serves is.0, is.1)
 
-left : TurnLaws → (s : Setup) (w : World) (x : Event) (u : World) (t : IsStep s w x u) → leaves_rings x.kind ≡ true → EachVhost w (TurnsAreHeld w) → EachVhost w (IsServed w)
-    → Shape s w x.actor t.actor.seen t.actor.doing t.now.command t.effect → Left s w x u t
-left laws s w x u t leaves turns served (Quiet o f g v wr alike) = record {
+-- an event of a turn
+abbrev pub IsTurn : (s : Setup) (w : World) (me seen : ℕ) (d : Doing) (c : Command) (r : Effect) → Shape s w me seen d c r → Type 0
+IsTurn s w me seen d c r (RxTurning vhost file q v g h made files f cis a b way step lv eq) = Unit {0}
+IsTurn s w me seen d c r (TxTurning vhost file q told v g made cis a b way step eq) = Unit {0}
+IsTurn s w me seen d c r shape = ⊥
+
+pub left : TurnLaws → (s : Setup) (w : World) (x : Event) (u : World) (t : IsStep s w x u) → leaves_rings x.kind ≡ true → EachVhost w (TurnsAreHeld w) → EachVhost w (IsServed w)
+    → (shape : Shape s w x.actor t.actor.seen t.actor.doing t.now.command t.effect) → (IsTurn s w x.actor t.actor.seen t.actor.doing t.now.command t.effect shape → ⊥) → Left s w x u t
+left laws s w x u t leaves turns served (Quiet o f g v wr alike) nt = record {
   course = alike_course w t.actor.doing t.effect.onward t.now.command alike;
   rings = no_rings s w x u t v;
   guests = same_guests s w x u t g;
 }
-left laws s w x u t leaves turns served (Giving vhost file q told o f g v wr k) = record {
+left laws s w x u t leaves turns served (Giving vhost file q told o f g v wr k) nt = record {
   course = giving s w x u t laws served vhost file q told k;
   rings = no_rings s w x u t v;
   guests = same_guests s w x u t g;
 }
-left laws s w x u t leaves turns served (Trims file n m k f is eq) = plain s w x u t _ eq (Free (ap serves is) refl) (no_rings s w x u t (on_vhosts s w x u t _ eq)) refl
-left laws s w x u t leaves turns served (Approves y is of free no_ eq) = plain s w x u t _ eq
+left laws s w x u t leaves turns served (Trims file n m k f is eq) nt = plain s w x u t _ eq (Free (ap serves is) refl) (no_rings s w x u t (on_vhosts s w x u t _ eq)) refl
+left laws s w x u t leaves turns served (Approves y is of free no_ eq) nt = plain s w x u t _ eq
     (Free (ap serves is) (course_is (λ (q : Doing). serves q ≡ false) (table s w) y (λ file. refl) (λ file. refl) (λ file k. refl) refl)) (no_rings s w x u t (on_vhosts s w x u t _ eq)) refl
-left laws s w x u t leaves turns served (BackApproves vhost ring file v is cis at_ free turn no_ eq) =
+left laws s w x u t leaves turns served (BackApproves vhost ring file v is cis at_ free turn no_ eq) nt =
     plain s w x u t _ eq (Free (ap serves is) refl) (go (is_ring ring) (on_vhosts s w x u t _ eq)) refl
   where
     go : (b : Bool) → t.effect.vhosts ≡ OnVhost vhost (if b then with_turn ring (Some x.actor) v else v) → OldRings w t.between.vhosts
     go true same = a_ring s w x u t vhost v (with_turn ring (Some x.actor) v) same at_ (turn_rings ring (Some x.actor) v)
     go false same = a_ring s w x u t vhost v v same at_ (refl, refl, refl)
-left laws s w x u t leaves turns served (Reopening file f is at_ eq) = plain s w x u t _ eq (Free (ap serves is) refl) (no_rings s w x u t (on_vhosts s w x u t _ eq)) refl
-left laws s w x u t leaves turns served (Shutting file version f is at_ eq) = plain s w x u t _ eq (Free (ap serves is) refl) (no_rings s w x u t (on_vhosts s w x u t _ eq)) refl
-left laws s w x u t leaves turns served (Sizing file capacity f is at_ eq) = plain s w x u t _ eq (Free (ap serves is) refl) (no_rings s w x u t (on_vhosts s w x u t _ eq)) refl
-left laws s w x u t leaves turns served (Publishing y n ans last of no_ eq) =
+left laws s w x u t leaves turns served (Reopening file f is at_ eq) nt = plain s w x u t _ eq (Free (ap serves is) refl) (no_rings s w x u t (on_vhosts s w x u t _ eq)) refl
+left laws s w x u t leaves turns served (Shutting file version f is at_ eq) nt = plain s w x u t _ eq (Free (ap serves is) refl) (no_rings s w x u t (on_vhosts s w x u t _ eq)) refl
+left laws s w x u t leaves turns served (Sizing file capacity f is at_ eq) nt = plain s w x u t _ eq (Free (ap serves is) refl) (no_rings s w x u t (on_vhosts s w x u t _ eq)) refl
+left laws s w x u t leaves turns served (Publishing y n ans last of no_ eq) nt =
     plain s w x u t _ eq (Free (last_serves t.actor.doing last) refl) (no_rings s w x u t (on_vhosts s w x u t _ eq)) refl
-left laws s w x u t leaves turns served (Withdrawing y file is of no_ eq) = plain s w x u t _ eq (Free (ap serves is) refl) (no_rings s w x u t (on_vhosts s w x u t _ eq)) refl
-left laws s w x u t leaves turns served (Learning file hash o f g v wr alike) = record {
+left laws s w x u t leaves turns served (Withdrawing y file is of no_ eq) nt = plain s w x u t _ eq (Free (ap serves is) refl) (no_rings s w x u t (on_vhosts s w x u t _ eq)) refl
+left laws s w x u t leaves turns served (Learning file hash o f g v wr alike) nt = record {
   course = alike_course w t.actor.doing t.effect.onward t.now.command alike;
   rings = no_rings s w x u t v;
   guests = same_guests s w x u t g;
 }
-left laws s w x u t leaves turns served (BackPublishes vhost ring asked cis eq) =
+left laws s w x u t leaves turns served (BackPublishes vhost ring asked cis eq) nt =
     let b = back_publishes s w x u t t.actor.doing vhost ring asked t.effect refl eq in
     plain s w x u t t.effect refl (back_course w t.actor.doing vhost ring asked t.effect t.now.command eq) b.0 b.1
-left laws s w x u t leaves turns served (Owning vhost ring asked cis eq) =
+left laws s w x u t leaves turns served (Owning vhost ring asked cis eq) nt =
     let b = owns s w x u t t.actor.doing vhost ring asked eq in
     plain s w x u t t.effect refl (own_course w t.actor.seen t.actor.doing vhost ring asked t.effect t.now.command eq) b.0 b.1
-left laws s w x u t leaves turns served (BackDrives refusal vhost ring file v g is cis a b free eq) =
+left laws s w x u t leaves turns served (BackDrives refusal vhost ring file v g is cis a b free eq) nt =
     absurd (no_change x.kind event.Drive leaves refl (subst (λ (d : Doing). is_kind x.kind (next_kind w d t.now.command) ≡ true) is t.next))
-left laws s w x u t leaves turns served (Calling vhost v g y is of a b call may eq) =
+left laws s w x u t leaves turns served (Calling vhost v g y is of a b call may eq) nt =
     absurd (no_change x.kind event.Drive leaves refl
     (subst (λ (k : EventKind). is_kind x.kind (Some k) ≡ true) (call_drives w t.now.command vhost of)
     (subst (λ (d : Doing). is_kind x.kind (next_kind w d t.now.command) ≡ true) is t.next)))
-left laws s w x u t leaves turns served (Touching guest g m step v y at_ same is o f gs vs wr on) = record {
+left laws s w x u t leaves turns served (Touching guest g m step v y at_ same is o f gs vs wr on) nt = record {
   course = subst (λ (q : Onward). Course w t.actor.doing q t.now.command) (sym on) (Free (ap serves is) refl);
   rings = no_rings s w x u t vs;
   guests = a_guest s w x u t guest m step g gs at_ same;
 }
-left laws s w x u t leaves turns served (RxTurning vhost file q v g h made files f cis a b way step lv eq) =
-    let stays = where_some (RxLeaves (rx_turns.rx_state q v g.memory)) _ made (rx_leaves h (rx_turns.rx_state q v g.memory) (rx_stage s w x u t leaves file q v way)) step in
-    let stands = rx_stands_on laws q v h g.memory made step (rx_stands laws s w x u t turns served vhost file q v cis a way) in
-    record {
-      course = subst (λ (y : Effect). Course w t.actor.doing y.onward t.now.command) eq (subst (λ (c : Command). Course w t.actor.doing (rx_turns.rx_onward t.actor.seen file made.0.turn f (rx_turns.rx_over made.0.turn.stage)) c) (sym cis)
-          (rx_course w t.actor.seen vhost file t.actor.doing v made.0.turn made.0.queue f a stays.0 (rx_was x.actor t.actor.doing file q v way) stands (rx_turns.rx_over made.0.turn.stage) refl));
-      rings = a_ring s w x u t vhost v _ (on_vhosts s w x u t _ eq) a
-          (rx_rings (if is_some (rx_turns.rx_over made.0.turn.stage) then None else Some x.actor) made.0.queue v stays.0);
-      guests = a_guest s w x u t v.guest made.0.memory _ g (ap (λ (y : Effect). y.guests) (sym eq)) b stays.1;
-    }
-left laws s w x u t leaves turns served (TxTurning vhost file q told v g made cis a b way step eq) =
-    let stays = where_some (TxLeaves (tx_turns.tx_state q v g.memory)) _ made (tx_leaves (tx_turns.tx_state q v g.memory) (tx_stage s w x u t leaves file q told v way)) step in
-    let after : List ChainText = tx_turns.chains_after made.1 made.0.turn.held told in
-    let fd : Found = rx_turns.found_by (rx_turns.kind_of vhost 1 made.1) (rx_turns.held_name made.0.turn.held) in
-    let stands = tx_stands_on laws q v g.memory made step (tx_stands laws s w x u t turns served vhost file q told v cis a way) in
-    record {
-      course = subst (λ (y : Effect). Course w t.actor.doing y.onward t.now.command) eq (subst (λ (c : Command). Course w t.actor.doing (tx_turns.tx_onward t.actor.seen file made.0.turn after fd (tx_turns.tx_over made.0.turn.stage)) c) (sym cis)
-          (tx_course w t.actor.seen vhost file t.actor.doing v made.0.turn after made.0.queue fd a stays.0 (tx_was t.actor.doing file q told v way) stands (tx_turns.tx_over made.0.turn.stage) refl));
-      rings = a_ring s w x u t vhost v _ (on_vhosts s w x u t _ eq) a
-          (tx_rings (if is_some (tx_turns.tx_over made.0.turn.stage) then None else Some x.actor) made.0.queue v stays.0);
-      guests = a_guest s w x u t v.guest made.0.memory _ g (ap (λ (y : Effect). y.guests) (sym eq)) b stays.1;
-    }
-
-pub rings_are_kept : TurnLaws → (s : Setup) (w : World) (x : Event) (u : World × Heard) → step s w x ≡ Some u → leaves_rings x.kind ≡ true
-    → EachActor w (λ actor a. CanBe a) → EachVhost w (TurnsAreHeld w) → HaveRings w → HaveRings u.0
-rings_are_kept laws s w x u e leaves stand turns h =
-    let t = step_is s w x u e in
-    let l = left laws s w x u.0 t leaves turns h.served (shape_here s w x u.0 t stand) in
-    let between : HaveRings t.between = record {
-      rings = rings_on w t.between l.rings l.guests h.rings;
-      served = served_between s w x u.0 t l.course l.rings h.served;
-    } in
-    subst HaveRings t.is (when_settled HaveRings t.between between (λ f end. record {
-      rings = between.rings;
-      served = served_ended t.between f end between.served;
-    }))
+left laws s w x u t leaves turns served (RxTurning vhost file q v g h made files f cis a b way step lv eq) nt = absurd (nt tt)
+left laws s w x u t leaves turns served (TxTurning vhost file q told v g made cis a b way step eq) nt = absurd (nt tt)

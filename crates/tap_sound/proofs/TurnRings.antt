@@ -14,7 +14,7 @@ use Rattle.vring_turns.specs.TxTurn.{TxState, TxTurn, tx_step}
 use Rattle.vhost_queue.specs.Queue.{Queue, IsQueueSize}
 use Rattle.vhost_queue.specs.Positions.{IsInOrder}
 use Rattle.tap_sound.proofs.Kit.{where_some, some_same}
-use Rattle.tap_sound.proofs.RingEvents.{free_none, alike_course, back_course, call_drives, effect_guests, last_serves, no_change, no_guests, none_rings, one_guest, one_rings, own_course, rx_course, rx_rings, rx_stays, this_one, turn_rings, tx_course, tx_only, tx_rings, tx_stays}
+use Rattle.tap_sound.proofs.RingEvents.{free_none, alike_course, back_course, call_drives, effect_guests, last_serves, no_change, no_guests, none_rings, one_guest, one_rings, own_course, this_one, turn_rings, tx_only, tx_rings}
 use Rattle.tap_sound.proofs.Serving.{rx_idle, rx_stands_on, tx_idle, tx_stands_on, unserved, TurnLaws, hdr_more, held_by}
 use Rattle.vring_turns.specs.Standing.{RxStands, TxStands, ReceiveTurnsKeepOrder, TransmitTurnsKeepOrder}
 use Rattle.tap_world.specs.Effect.OnVhosts.{OnVhost, NoVhost}

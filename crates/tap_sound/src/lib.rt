@@ -82,8 +82,8 @@ pub fn table_is_kept()
     ensures { TableIsKept }
 {}
 
-/// Every event but four keeps that the rings of vhosts are in order, and stand with the turns that serve them: a call on a
-/// vhost, and the events of a turn that fetch, copy and publish.
+/// Every event but a Drive, which calls a vhost or a driver, keeps that the rings of vhosts are in order, and stand with the
+/// turns that serve them.
 pub fn rings_are_kept()
     ensures { RingsAreKept }
 {
