@@ -59,3 +59,4 @@ mod StepFacts
 mod ServedMoved
 mod TurnRings
 mod EventRings
+mod CallRings
