@@ -60,3 +60,4 @@ mod ServedMoved
 mod TurnRings
 mod EventRings
 mod CallRings
+mod DriveRings

@@ -76,7 +76,7 @@ module _ (s : Setup) (w : World) (x : Event) (u : World) (t : IsStep s w x u) wh
   guests_on : (o : OnGuests) → t.effect.guests ≡ o → guests_after x.actor x.command o w.guests ≡ Some t.between.guests
   guests_on o is = subst (λ (q : OnGuests). guests_after x.actor x.command q w.guests ≡ Some t.between.guests) is (effect_guests t.effect x.actor t.actor x.command w t.between t.made)
 
-  same_guests : t.effect.guests ≡ NoGuest → OldGuests w t.between.guests
+  pub same_guests : t.effect.guests ≡ NoGuest → OldGuests w t.between.guests
   same_guests is = no_guests w x.actor x.command t.between.guests (guests_on NoGuest is)
 
   pub a_guest : (guest : ℕ) (m : Contents) (step : Option Kind) (g : Guest) → t.effect.guests ≡ OnGuest guest m step → at w.guests guest ≡ Some g → m.regions ≡ g.memory.regions → OldGuests w t.between.guests

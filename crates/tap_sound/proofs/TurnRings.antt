@@ -77,12 +77,12 @@ others_free w me vhost r v turns below (inr mine) i a no_ at_ sv =
 held_turn : (w : World) (me vhost r : ℕ) (v : Vhost) (a : Actor) → TurnsAreHeld w vhost v → r < 2 → slice_get w.actors me ≡ Some a → Serves vhost r a → turn_of r v ≡ Some me
 held_turn w me vhost r v a turns below at_ sv = at_is me (turn_of r v) (sym (turns r me a below at_) ∙ held_by vhost r a sv)
 
-about_after : (n r : ℕ) (a : Actor) (c : Numbered) (o : Onward) → slice_get a.script 0 ≡ Some c → Serves n r (actor_after o a) → about n r c.command ≡ true
+pub about_after : (n r : ℕ) (a : Actor) (c : Numbered) (o : Onward) → slice_get a.script 0 ≡ Some c → Serves n r (actor_after o a) → about n r c.command ≡ true
 about_after n r a c (Goes seen e f) at_ sv = sym (ap (is_about n r) at_) ∙ sv.1
 about_after n r a c (Ends seen y) at_ sv = absurd (true≢false (sym sv.0))
 about_after n r a c (Stays f) at_ sv = sym (ap (is_about n r) at_) ∙ sv.1
 
-about_before : (n r : ℕ) (a : Actor) (c : Numbered) → slice_get a.script 0 ≡ Some c → Serves n r a → about n r c.command ≡ true
+pub about_before : (n r : ℕ) (a : Actor) (c : Numbered) → slice_get a.script 0 ≡ Some c → Serves n r a → about n r c.command ≡ true
 about_before n r a c at_ sv = sym (ap (is_about n r) at_) ∙ sv.1
 
 ring_does : (g : Guest) (r : RingSettings) (q : Queue) (m n : Contents) → Does r.queue m q n → ((base start : ℕ) → IsInOrder base start r.queue.positions → IsInOrder base start q.positions)
