@@ -13,7 +13,7 @@ use Rattle.vring_turns.specs.RxTurn.{RxState, RxTurn, rx_step}
 use Rattle.vring_turns.specs.TxTurn.{TxState, TxTurn, tx_step}
 use Rattle.vhost_queue.specs.Queue.{Queue, IsQueueSize}
 use Rattle.vhost_queue.specs.Positions.{IsInOrder, IsIdle}
-use Rattle.tap_sound.proofs.Kit.{where_some, some_same}
+use Rattle.tap_sound.proofs.Kit.{either, some_same, where_some}
 use Rattle.tap_sound.proofs.RingEvents.{free_none, alike_course, back_course, call_drives, effect_guests, last_serves, no_change, no_guests, none_rings, one_guest, one_rings, own_course, this_one, turn_rings, tx_only, tx_rings}
 use Rattle.tap_sound.proofs.Serving.{rx_idle, rx_stands_on, tx_idle, tx_stands_on, unserved, TurnLaws, hdr_more, held_by}
 use Rattle.vring_turns.specs.Standing.{RxStands, TxStands, ReceiveTurnsKeepOrder, TransmitTurnsKeepOrder}
@@ -37,7 +37,7 @@ use Rattle.tap_world.specs.SoundActors.{CanBe}
 use Rattle.tap_sound.specs.Served.{leaves_rings, HaveRings}
 use Rattle.tap_sound.proofs.RingSteps.{RxLeaves, TxLeaves, rx_changes, rx_leaves, tx_changes, tx_leaves}
 use Rattle.tap_sound.proofs.ServedOn.{Course, OldGuests, OldRings, SameRings, rings_on, served_between, served_ended, A}
-use Rattle.tap_sound.proofs.Taken.{IsStep, step_is, when_settled}
+use Rattle.tap_sound.proofs.Taken.{IsStep, step_is, when_settled, both}
 use Rattle.tap_sound.proofs.Turned.{at_is, itself, is_at, others}
 use Rattle.tap_sound.proofs.Turns.{about, effect_vhosts, and_false, held, two_rings, is_below}
 use Rattle.tap_sound.proofs.Writers.{course_is, doing_after, is_doing_after}
@@ -47,7 +47,7 @@ use Rattle.tap_sound.proofs.Held.{shape_here}
 use Rattle.vring_split.specs.declared.layout.Layout.{Layout}
 use Rattle.vring_split.specs.Good.{IsGoodFor}
 use Rattle.vhost_dev.specs.Lists.{AreInOrder}
-use Rattle.tap_world.specs.World.Doing.{Begun, Receives, Transmits, Backs}
+use Rattle.tap_world.specs.World.Doing.{Backs, Begun, Receives, Released, Transmits, Unbacked}
 use Rattle.tap_sound.proofs.RingsKept.{a_guest, mine_of, on_vhosts, rx_stands, rx_was, tx_stands, tx_was, vhosts_on, same_guests}
 use Rattle.tap_sound.proofs.ServedMoved.{Elsewhere, Outcome, RingMove, rings_moved, served_moved}
 use Rattle.tap_sound.proofs.ServedMoved.Outcome.{Over, Rest, Serving}
@@ -64,6 +64,7 @@ use Rattle.tap_sound.proofs.Calls.{Called, called_is}
 use Rattle.tap_sound.proofs.Calls.Called.{Addr, Base, Features, Num, Untouched}
 use Rattle.tap_sound.proofs.Standing.{answered, first_passed, ring_there}
 use Rattle.tap_sound.proofs.TurnRings.{about_after, about_before, others_free}
+use Rattle.tap_trace.specs.declared.kind.Kind.TheVariants as kind
 use Rattle.scen_words.specs.declared.command.Command.TheVariants as command
 use Rattle.tap_world.specs.declared.event.EventKind.TheVariants as event
 use Rattle.tap_world.specs.StepBackend as back_steps
@@ -141,3 +142,128 @@ module _ (s : Setup) (w : World) (x : Event) (u : World) (t : IsStep s w x u) wh
       → t.effect.guests ≡ option_map_or (λ k. OnGuest guest m (Some k)) o NoGuest → OldGuests w t.between.guests
   step_guests guest m g None found same is = same_guests s w x u t is
   step_guests guest m g (Some k) found same is = a_guest s w x u t guest m (Some k) g is found same
+
+  serves_on : (r : Effect) → r ≡ t.effect → serves (doing_after r.onward t.actor.doing) ≡ false → serves (doing_after t.effect.onward t.actor.doing) ≡ false
+  serves_on r eq is = ap (λ (q : Effect). serves (doing_after q.onward t.actor.doing)) (sym eq) ∙ is
+
+  vhosts_of : (r : Effect) → r ≡ t.effect → t.effect.vhosts ≡ r.vhosts
+  vhosts_of r eq = ap (λ (q : Effect). q.vhosts) (sym eq)
+
+  guests_of : (r : Effect) → r ≡ t.effect → t.effect.guests ≡ r.guests
+  guests_of r eq = ap (λ (q : Effect). q.guests) (sym eq)
+
+  -- a backend ends at its Drive
+  back_ended : (vhost ring : ℕ) (b : Bool) (v : Vhost) (g : Guest) (k : Option Kind) → EachActor w (λ actor a. CanBe a) → at w.vhosts vhost ≡ Some v → at w.guests v.guest ≡ Some g
+      → t.effect.vhosts ≡ OnVhost vhost (if b then with_turn ring None v else v) → t.effect.guests ≡ option_map_or (λ q. OnGuest v.guest g.memory (Some q)) k NoGuest
+      → serves t.actor.doing ≡ false → serves (doing_after t.effect.onward t.actor.doing) ≡ false → HaveRings w → HaveRings t.between
+  back_ended vhost ring true v g k can found got vh gs before after h =
+      let same = turn_settings (ring == 0) in
+      kept_by vhost v (with_turn ring None v) can found vh (step_guests v.guest g.memory g k got refl gs) same.1 before after
+      (still_moves vhost v (with_turn ring None v) same.0 before after) (λ y is both. subst (BothRings y) (sym same.0) both) h
+    where
+      turn_settings : (b : Bool) → ((if b then record v { rx_turn = None } else record v { tx_turn = None }).settings ≡ v.settings)
+          × ((if b then record v { rx_turn = None } else record v { tx_turn = None }).guest ≡ v.guest)
+      turn_settings true = (refl, refl)
+      turn_settings false = (refl, refl)
+  back_ended vhost ring false v g k can found got vh gs before after h =
+      kept_by vhost v v can found vh (step_guests v.guest g.memory g k got refl gs) refl before after (still_moves vhost v v refl before after) (λ y is both. both) h
+
+  -- it is unset
+  unsets_kept : DevLaws → (vhost ring : ℕ) (v : Vhost) (g : Guest) (a : Option VhostErr) (o : Option ℕ) → a ≡ number_refusal ring → EachActor w (λ actor a. CanBe a) → EachVhost w (TurnsAreHeld w)
+      → at w.vhosts vhost ≡ Some v → at w.guests v.guest ≡ Some g → is_free_for x.actor ring v ≡ true → serves t.actor.doing ≡ false
+      → back_steps.unsets_back w x.actor t.actor.seen vhost ring v g.memory a o ≡ t.effect → HaveRings w → HaveRings t.between
+  unsets_kept laws vhost ring v g (Some e) o no_ can turns found got free before eq h =
+      back_ended vhost ring (is_ring ring && true) v g None can found got (vhosts_of _ eq) (guests_of _ eq) before (serves_on _ eq refl) h
+  unsets_kept laws vhost ring v g None None no_ can turns found got free before eq h =
+      back_ended vhost ring (is_ring ring && true) v g (Some (kind.Backend vhost ring false)) can found got (vhosts_of _ eq) (guests_of _ eq) before (serves_on _ eq refl) h
+  unsets_kept laws vhost ring v g None (Some file) no_ can turns found got free before eq h =
+      let there = ring_there ring (first_passed _ _ _ (sym no_)) in
+      let after = serves_on _ eq (either (λ (q : Doing). serves q ≡ false) (ring == 0) (Unbacked file) (Released file) refl refl) in
+      kept_by vhost v (record v { settings = dev.without_backend ring v.settings }) can found (vhosts_of _ eq) (a_guest s w x u t v.guest g.memory _ g (guests_of _ eq) got refl) refl before after
+      (ring_moves vhost ring v _ (dev.unbacked (ring_at ring v.settings)) (turns vhost v found) refl (is_below ring there) (holder_of x.actor ring v free there) before after (λ k. k))
+      (λ y is both. call_keeps laws y v.settings (dev.without_backend ring v.settings) (UnsetBackend ring) tt (sym no_) refl both) h
+
+  -- it is set
+  sets_kept : DevLaws → (vhost ring file : ℕ) (refusal : Option TapText) (v : Vhost) (g : Guest) (a : Option Answer) → (a ≡ None → ready_refusal ring g.memory v.settings ≡ None)
+      → EachActor w (λ actor a. CanBe a) → EachVhost w (TurnsAreHeld w)
+      → at w.vhosts vhost ≡ Some v → at w.guests v.guest ≡ Some g → is_free_for x.actor ring v ≡ true → serves t.actor.doing ≡ false
+      → back_steps.sets_back w x.actor t.actor.seen vhost ring file refusal v g.memory a ≡ t.effect → HaveRings w → HaveRings t.between
+  sets_kept laws vhost ring file refusal v g (Some y) no_ can turns found got free before eq h =
+      back_ended vhost ring (is_ring ring && is_none refusal) v g _ can found got (vhosts_of _ eq) (guests_of _ eq) before (serves_on _ eq refl) h
+  sets_kept laws vhost ring file refusal v g None no_ can turns found got free before eq h =
+      let there = ring_there ring (first_passed _ _ _ (no_ refl)) in
+      let after = serves_on _ eq refl in
+      kept_by vhost v (record v { settings = dev.with_backend ring file g.memory v.settings }) can found (vhosts_of _ eq) (a_guest s w x u t v.guest g.memory _ g (guests_of _ eq) got refl) refl before after
+      (ring_moves vhost ring v _ (dev.backed file g.memory (ring_at ring v.settings)) (turns vhost v found) refl (is_below ring there) (holder_of x.actor ring v free there) before after (λ k. k))
+      (λ y is both. let it : g ≡ y = some_same g y (sym got ∙ is) in
+      subst (λ (z : Guest). BothRings z (dev.with_backend ring file g.memory v.settings)) it
+      (call_keeps laws g v.settings (dev.with_backend ring file g.memory v.settings) (SetBackend ring file) tt (no_ refl) refl (subst (λ (z : Guest). BothRings z v.settings) (sym it) both))) h
+
+  pub back_kept : DevLaws → (refusal : Option TapText) (vhost ring : ℕ) (file : Option ℕ) (v : Vhost) (g : Guest) → EachActor w (λ actor a. CanBe a) → EachVhost w (TurnsAreHeld w)
+      → at w.vhosts vhost ≡ Some v → at w.guests v.guest ≡ Some g → is_free_for x.actor ring v ≡ true → serves t.actor.doing ≡ false
+      → back_steps.back_call s w x.actor t.actor.seen refusal vhost ring file v g.memory ≡ t.effect → HaveRings w → HaveRings t.between
+  back_kept laws refusal vhost ring None v g can turns found got free before eq h =
+      unsets_kept laws vhost ring v g (number_refusal ring) (ring_at ring v.settings).file refl can turns found got free before eq h
+  back_kept laws refusal vhost ring (Some file) v g can turns found got free before eq h =
+      sets_kept laws vhost ring file refusal v g (back_steps.back_answer (ready_refusal ring g.memory v.settings) refusal (back_steps.unfit_for (steer.shape_of (table s w) file) v.settings))
+      (λ e. (answered _ _ _ e).0) can turns found got free before eq h
+
+  -- a call
+  nobody_serves : (vhost ring : ℕ) (v : Vhost) → TurnsAreHeld w vhost v → ring < 2 → (turn_of ring v ≡ None) ⊎ (turn_of ring v ≡ Some x.actor) → serves t.actor.doing ≡ false
+      → (i : ℕ) (a : Actor) → slice_get w.actors i ≡ Some a → Serves vhost ring a → ⊥
+  nobody_serves vhost ring v turns below holder before i a at_ sv = ⊎_elim
+      (λ e. free_before before vhost ring (subst (Serves vhost ring) (some_same a t.actor (sym (subst (λ (k : ℕ). slice_get w.actors k ≡ Some a) (sym e.1) at_) ∙ t.found)) sv))
+      (λ e. others_free w x.actor vhost ring v turns below holder i a e.1 at_ sv)
+      (eqb_tells x.actor i)
+
+  features_moves : (vhost bits : ℕ) (v new : Vhost) → TurnsAreHeld w vhost v → new.settings ≡ dev.with_features bits v.settings
+      → is_free_for x.actor 0 v ≡ true → is_free_for x.actor 1 v ≡ true → serves t.actor.doing ≡ false → serves (doing_after t.effect.onward t.actor.doing) ≡ false
+      → (r : ℕ) → r < 2 → RingMove s w x u t vhost v new r
+  features_moves vhost bits v new turns is free0 free1 before after r fits = ⊎_elim
+      (λ e. subst (RingMove s w x u t vhost v new) (sym e) (Redone (others_free w x.actor vhost 0 v turns (omega arith) (holder_of x.actor 0 v free0 refl))
+      (Rest (free_before before vhost 0) (free_after after vhost 0) (λ idle. subst (λ (k : Settings). IsIdle k.rx.queue.positions) (sym is) idle))))
+      (λ e. subst (RingMove s w x u t vhost v new) (sym e) (Redone (others_free w x.actor vhost 1 v turns (omega arith) (holder_of x.actor 1 v free1 refl))
+      (Rest (free_before before vhost 1) (free_after after vhost 1) (λ idle. subst (λ (k : Settings). IsIdle k.tx.queue.positions) (sym is) idle))))
+      (two_rings r fits)
+
+  called_kept : DevLaws → (vhost : ℕ) (v : Vhost) (g : Guest) (y : control.Call) → EachActor w (λ actor a. CanBe a) → EachVhost w (TurnsAreHeld w)
+      → at w.vhosts vhost ≡ Some v → at w.guests v.guest ≡ Some g → control.may_call x.actor t.now.command v ≡ true → serves t.actor.doing ≡ false
+      → serves (doing_after t.effect.onward t.actor.doing) ≡ false → t.effect.vhosts ≡ OnVhost vhost y.vhost → OldGuests w t.between.guests
+      → Called t.now.command v g.memory y → HaveRings w → HaveRings t.between
+  called_kept laws vhost v g y can turns found got may before after vh gs (Untouched st gu a b) h =
+      kept_by vhost v y.vhost can found vh gs gu before after (still_moves vhost v y.vhost st before after) (λ k is both. subst (BothRings k) (sym st) both) h
+  called_kept laws vhost v g y can turns found got may before after vh gs (Features n bits cis no_ same) h =
+      let free = both _ _ (subst (λ (c : Command). control.may_call x.actor c v ≡ true) cis may) in
+      kept_by vhost v y.vhost can found vh gs (ap (λ (q : Vhost). q.guest) same) before after
+      (features_moves vhost bits v y.vhost (turns vhost v found) (ap (λ (q : Vhost). q.settings) same) free.0 free.1 before after)
+      (λ k is both_. call_keeps laws k v.settings y.vhost.settings (SetFeatures bits) tt no_ (ap (λ (q : Vhost). q.settings) same) both_) h
+  called_kept laws vhost v g y can turns found got may before after vh gs (Num n ring m cis no_ same) h =
+      let there = ring_there ring (first_passed _ _ _ no_) in
+      let free = subst (λ (c : Command). control.may_call x.actor c v ≡ true) cis may in
+      kept_by vhost v y.vhost can found vh gs (ap (λ (q : Vhost). q.guest) same) before after
+      (ring_moves vhost ring v y.vhost (dev.resized m (ring_at ring v.settings)) (turns vhost v found) (ap (λ (q : Vhost). q.settings) same) (is_below ring there) (holder_of x.actor ring v free there) before after (λ k. k))
+      (λ k is both_. call_keeps laws k v.settings y.vhost.settings (SetNum ring m) tt no_ (ap (λ (q : Vhost). q.settings) same) both_) h
+  called_kept laws vhost v g y can turns found got may before after vh gs (Base n ring m cis no_ same) h =
+      let there = ring_there ring (first_passed _ _ _ no_) in
+      let free = subst (λ (c : Command). control.may_call x.actor c v ≡ true) cis may in
+      let holder = holder_of x.actor ring v free there in
+      kept_by vhost v y.vhost can found vh gs (ap (λ (q : Vhost). q.guest) same) before after
+      (ring_moves vhost ring v y.vhost (dev.begun m (ring_at ring v.settings)) (turns vhost v found) (ap (λ (q : Vhost). q.settings) same) (is_below ring there) holder before after (λ k. k))
+      (λ k is both_. call_keeps laws k v.settings y.vhost.settings (SetBase ring m)
+      ((h.served vhost v found).idle ring (is_below ring there) (nobody_serves vhost ring v (turns vhost v found) (is_below ring there) holder before)) no_ (ap (λ (q : Vhost). q.settings) same) both_) h
+  called_kept laws vhost v g y can turns found got may before after vh gs (Addr n ring desc avail used cis no_ same) h =
+      let there = ring_there ring (first_passed _ _ _ no_) in
+      let free = subst (λ (c : Command). control.may_call x.actor c v ≡ true) cis may in
+      kept_by vhost v y.vhost can found vh gs (ap (λ (q : Vhost). q.guest) same) before after
+      (ring_moves vhost ring v y.vhost (dev.placed desc avail used (ring_at ring v.settings)) (turns vhost v found) (ap (λ (q : Vhost). q.settings) same) (is_below ring there)
+      (holder_of x.actor ring v free there) before after (λ k. k))
+      (λ k is both_. let it : g ≡ k = some_same g k (sym got ∙ is) in
+      subst (λ (z : Guest). BothRings z y.vhost.settings) it
+      (call_keeps laws g v.settings y.vhost.settings (SetAddr ring desc avail used) tt no_ (ap (λ (q : Vhost). q.settings) same) (subst (λ (z : Guest). BothRings z v.settings) (sym it) both_))) h
+
+  pub call_kept : DevLaws → (vhost : ℕ) (v : Vhost) (g : Guest) (y : control.Call) → EachActor w (λ actor a. CanBe a) → EachVhost w (TurnsAreHeld w) → t.actor.doing ≡ Begun
+      → at w.vhosts vhost ≡ Some v → at w.guests v.guest ≡ Some g → control.call_of t.now.command v g.memory ≡ Some y → control.may_call x.actor t.now.command v ≡ true
+      → control.call_effect w t.actor.seen vhost v.guest y ≡ t.effect → HaveRings w → HaveRings t.between
+  call_kept laws vhost v g y can turns is found got call may eq h =
+      called_kept laws vhost v g y can turns found got may (ap serves is) (serves_on _ eq refl) (vhosts_of _ eq)
+      (step_guests v.guest y.memory g y.step got (call_regions t.now.command v g.memory y call) (guests_of _ eq)) (called_is t.now.command v g.memory y call) h
