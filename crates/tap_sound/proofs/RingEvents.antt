@@ -34,7 +34,6 @@ use Rattle.tap_world.specs.StepControl as control
 use Rattle.tap_world.specs.StepTurns as rx_turns
 use Rattle.tap_world.specs.StepTransmits as tx_turns
 use Rattle.tap_world.specs.SoundRings.{holds_turn, serves}
-use Rattle.tap_sound.specs.Served.{leaves_rings}
 use Rattle.tap_sound.proofs.Kit.{either, some_same, then_some}
 use Rattle.tap_sound.proofs.Claims.{with_at_inv}
 use Rattle.tap_sound.proofs.Follows.{same_kind}
@@ -152,24 +151,6 @@ rx_rings o q v same = (refl, ap (λ (y : Queue). record v.settings.rx { queue = 
 
 pub tx_rings : (o : Option ℕ) (q : Queue) (v : Vhost) → q ≡ v.settings.tx.queue → SameRings v (with_turn 1 o (with_queue 1 q v))
 tx_rings o q v same = (refl, refl, ap (λ (y : Queue). record v.settings.tx { queue = y }) same)
-
--- ---- which stages
-
-pub no_change : (k j : EventKind) → leaves_rings k ≡ true → leaves_rings j ≡ false → is_kind k (Some j) ≡ true → ⊥
-no_change k j a b e = true≢false (sym a ∙ ap leaves_rings (same_kind k j e) ∙ b)
-
--- a call is made at its Drive
-pub call_drives : (w : World) (c : Command) (vhost : ℕ) → control.vhost_of c ≡ Some vhost → first_kind w c ≡ event.Drive
-call_drives w (command.Features n bits) vhost e = refl
-call_drives w (command.VNum n ring k) vhost e = refl
-call_drives w (command.VBase n ring k) vhost e = refl
-call_drives w (command.VAddr n ring desc avail used) vhost e = refl
-call_drives w (command.GetBase n ring) vhost e = refl
-call_drives w (command.DriveAt n ring addr) vhost e = refl
-call_drives w (command.PostIn n ring lens) vhost e = refl
-call_drives w (command.PostOut n ring bytes) vhost e = refl
-call_drives w (command.Harvest n ring) vhost e = refl
-call_drives w c vhost e = absurd (cc (e))
 
 -- a turn that is free
 pub free_none : (ring : ℕ) (v : Vhost) → is_free ring v ≡ true → turn_of ring v ≡ None

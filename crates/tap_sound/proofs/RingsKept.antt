@@ -26,7 +26,7 @@ use Rattle.tap_world.specs.Scripts.{is_kind, next_kind}
 use Rattle.tap_world.specs.Sound.{EachVhost, EachActor}
 use Rattle.tap_world.specs.SoundActors.{CanBe}
 use Rattle.tap_world.specs.SoundRings.{IsServed, Serves, StandsWith, TurnsAreHeld, is_about, serves}
-use Rattle.tap_sound.specs.Served.{leaves_rings, HaveRings}
+use Rattle.tap_sound.specs.Served.{HaveRings}
 use Rattle.tap_sound.proofs.Kit.{some_same, where_some}
 use Rattle.tap_sound.proofs.RingSteps.{RxLeaves, TxLeaves, rx_changes, rx_leaves, tx_changes, tx_leaves}
 use Rattle.tap_sound.proofs.ServedOn.{Course, OldGuests, OldRings, SameRings, rings_on, served_between, served_ended}
@@ -41,7 +41,7 @@ use Rattle.tap_sound.proofs.Writers.{course_is}
 use Rattle.tap_world.specs.declared.event.Heard.{Heard}
 use Rattle.tap_world.specs.Step.{step}
 use Rattle.tap_sound.proofs.Held.{shape_here}
-use Rattle.tap_sound.proofs.RingEvents.{alike_course, back_course, call_drives, effect_guests, last_serves, no_change, no_guests, none_rings, one_guest, one_rings, own_course, this_one, turn_rings, tx_only, free_none}
+use Rattle.tap_sound.proofs.RingEvents.{alike_course, back_course, effect_guests, last_serves, no_guests, none_rings, one_guest, one_rings, own_course, this_one, turn_rings, tx_only, free_none}
 use Rattle.scen_words.specs.declared.command.Command.TheVariants as command
 use Rattle.tap_world.specs.declared.event.EventKind.TheVariants as event
 use Rattle.tap_world.specs.StepBackend as back_steps
@@ -167,60 +167,58 @@ pub tx_was : (d : Doing) (file : ℕ) (q : TxTurn) (told : List ChainText) (v : 
 tx_was d file q told v (inl is) = inl (ap serves is, refl)
 tx_was d file q told v (inr is) = inr (ap serves is.0, is.1)
 
--- an event of a turn
-abbrev pub IsTurn : (s : Setup) (w : World) (me seen : ℕ) (d : Doing) (c : Command) (r : Effect) → Shape s w me seen d c r → Type 0
-IsTurn s w me seen d c r (RxTurning vhost file q v g h made files f cis a b way step lv eq) = Unit {0}
-IsTurn s w me seen d c r (TxTurning vhost file q told v g made cis a b way step eq) = Unit {0}
-IsTurn s w me seen d c r shape = ⊥
+-- an event on a ring
+abbrev pub IsOnRing : (s : Setup) (w : World) (me seen : ℕ) (d : Doing) (c : Command) (r : Effect) → Shape s w me seen d c r → Type 0
+IsOnRing s w me seen d c r (RxTurning vhost file q v g h made files f cis a b way step lv eq) = Unit {0}
+IsOnRing s w me seen d c r (TxTurning vhost file q told v g made cis a b way step eq) = Unit {0}
+IsOnRing s w me seen d c r (BackDrives refusal vhost ring file v g is cis a b free eq) = Unit {0}
+IsOnRing s w me seen d c r (Calling vhost v g y is of a b call may eq) = Unit {0}
+IsOnRing s w me seen d c r shape = ⊥
 
-pub left : TurnLaws → (s : Setup) (w : World) (x : Event) (u : World) (t : IsStep s w x u) → leaves_rings x.kind ≡ true → EachVhost w (TurnsAreHeld w) → EachVhost w (IsServed w)
-    → (shape : Shape s w x.actor t.actor.seen t.actor.doing t.now.command t.effect) → (IsTurn s w x.actor t.actor.seen t.actor.doing t.now.command t.effect shape → ⊥) → Left s w x u t
-left laws s w x u t leaves turns served (Quiet o f g v wr alike) nt = record {
+pub left : TurnLaws → (s : Setup) (w : World) (x : Event) (u : World) (t : IsStep s w x u) → EachVhost w (TurnsAreHeld w) → EachVhost w (IsServed w)
+    → (shape : Shape s w x.actor t.actor.seen t.actor.doing t.now.command t.effect) → (IsOnRing s w x.actor t.actor.seen t.actor.doing t.now.command t.effect shape → ⊥) → Left s w x u t
+left laws s w x u t turns served (Quiet o f g v wr alike) nt = record {
   course = alike_course w t.actor.doing t.effect.onward t.now.command alike;
   rings = no_rings s w x u t v;
   guests = same_guests s w x u t g;
 }
-left laws s w x u t leaves turns served (Giving vhost file q told o f g v wr k) nt = record {
+left laws s w x u t turns served (Giving vhost file q told o f g v wr k) nt = record {
   course = giving s w x u t laws served vhost file q told k;
   rings = no_rings s w x u t v;
   guests = same_guests s w x u t g;
 }
-left laws s w x u t leaves turns served (Trims file n m k f is eq) nt = plain s w x u t _ eq (Free (ap serves is) refl) (no_rings s w x u t (on_vhosts s w x u t _ eq)) refl
-left laws s w x u t leaves turns served (Approves y is of free no_ eq) nt = plain s w x u t _ eq
+left laws s w x u t turns served (Trims file n m k f is eq) nt = plain s w x u t _ eq (Free (ap serves is) refl) (no_rings s w x u t (on_vhosts s w x u t _ eq)) refl
+left laws s w x u t turns served (Approves y is of free no_ eq) nt = plain s w x u t _ eq
     (Free (ap serves is) (course_is (λ (q : Doing). serves q ≡ false) (table s w) y (λ file. refl) (λ file. refl) (λ file k. refl) refl)) (no_rings s w x u t (on_vhosts s w x u t _ eq)) refl
-left laws s w x u t leaves turns served (BackApproves vhost ring file v is cis at_ free turn no_ eq) nt =
+left laws s w x u t turns served (BackApproves vhost ring file v is cis at_ free turn no_ eq) nt =
     plain s w x u t _ eq (Free (ap serves is) refl) (go (is_ring ring) (on_vhosts s w x u t _ eq)) refl
   where
     go : (b : Bool) → t.effect.vhosts ≡ OnVhost vhost (if b then with_turn ring (Some x.actor) v else v) → OldRings w t.between.vhosts
     go true same = a_ring s w x u t vhost v (with_turn ring (Some x.actor) v) same at_ (turn_rings ring (Some x.actor) v)
     go false same = a_ring s w x u t vhost v v same at_ (refl, refl, refl)
-left laws s w x u t leaves turns served (Reopening file f is at_ eq) nt = plain s w x u t _ eq (Free (ap serves is) refl) (no_rings s w x u t (on_vhosts s w x u t _ eq)) refl
-left laws s w x u t leaves turns served (Shutting file version f is at_ eq) nt = plain s w x u t _ eq (Free (ap serves is) refl) (no_rings s w x u t (on_vhosts s w x u t _ eq)) refl
-left laws s w x u t leaves turns served (Sizing file capacity f is at_ eq) nt = plain s w x u t _ eq (Free (ap serves is) refl) (no_rings s w x u t (on_vhosts s w x u t _ eq)) refl
-left laws s w x u t leaves turns served (Publishing y n ans last of no_ eq) nt =
+left laws s w x u t turns served (Reopening file f is at_ eq) nt = plain s w x u t _ eq (Free (ap serves is) refl) (no_rings s w x u t (on_vhosts s w x u t _ eq)) refl
+left laws s w x u t turns served (Shutting file version f is at_ eq) nt = plain s w x u t _ eq (Free (ap serves is) refl) (no_rings s w x u t (on_vhosts s w x u t _ eq)) refl
+left laws s w x u t turns served (Sizing file capacity f is at_ eq) nt = plain s w x u t _ eq (Free (ap serves is) refl) (no_rings s w x u t (on_vhosts s w x u t _ eq)) refl
+left laws s w x u t turns served (Publishing y n ans last of no_ eq) nt =
     plain s w x u t _ eq (Free (last_serves t.actor.doing last) refl) (no_rings s w x u t (on_vhosts s w x u t _ eq)) refl
-left laws s w x u t leaves turns served (Withdrawing y file is of no_ eq) nt = plain s w x u t _ eq (Free (ap serves is) refl) (no_rings s w x u t (on_vhosts s w x u t _ eq)) refl
-left laws s w x u t leaves turns served (Learning file hash o f g v wr alike) nt = record {
+left laws s w x u t turns served (Withdrawing y file is of no_ eq) nt = plain s w x u t _ eq (Free (ap serves is) refl) (no_rings s w x u t (on_vhosts s w x u t _ eq)) refl
+left laws s w x u t turns served (Learning file hash o f g v wr alike) nt = record {
   course = alike_course w t.actor.doing t.effect.onward t.now.command alike;
   rings = no_rings s w x u t v;
   guests = same_guests s w x u t g;
 }
-left laws s w x u t leaves turns served (BackPublishes vhost ring asked cis eq) nt =
+left laws s w x u t turns served (BackPublishes vhost ring asked cis eq) nt =
     let b = back_publishes s w x u t t.actor.doing vhost ring asked t.effect refl eq in
     plain s w x u t t.effect refl (back_course w t.actor.doing vhost ring asked t.effect t.now.command eq) b.0 b.1
-left laws s w x u t leaves turns served (Owning vhost ring asked cis eq) nt =
+left laws s w x u t turns served (Owning vhost ring asked cis eq) nt =
     let b = owns s w x u t t.actor.doing vhost ring asked eq in
     plain s w x u t t.effect refl (own_course w t.actor.seen t.actor.doing vhost ring asked t.effect t.now.command eq) b.0 b.1
-left laws s w x u t leaves turns served (BackDrives refusal vhost ring file v g is cis a b free eq) nt =
-    absurd (no_change x.kind event.Drive leaves refl (subst (λ (d : Doing). is_kind x.kind (next_kind w d t.now.command) ≡ true) is t.next))
-left laws s w x u t leaves turns served (Calling vhost v g y is of a b call may eq) nt =
-    absurd (no_change x.kind event.Drive leaves refl
-    (subst (λ (k : EventKind). is_kind x.kind (Some k) ≡ true) (call_drives w t.now.command vhost of)
-    (subst (λ (d : Doing). is_kind x.kind (next_kind w d t.now.command) ≡ true) is t.next)))
-left laws s w x u t leaves turns served (Touching guest g m step v y at_ same is o f gs vs wr on) nt = record {
+left laws s w x u t turns served (BackDrives refusal vhost ring file v g is cis a b free eq) nt = absurd (nt tt)
+left laws s w x u t turns served (Calling vhost v g y is of a b call may eq) nt = absurd (nt tt)
+left laws s w x u t turns served (Touching guest g m step v y at_ same is o f gs vs wr on) nt = record {
   course = subst (λ (q : Onward). Course w t.actor.doing q t.now.command) (sym on) (Free (ap serves is) refl);
   rings = no_rings s w x u t vs;
   guests = a_guest s w x u t guest m step g gs at_ same;
 }
-left laws s w x u t leaves turns served (RxTurning vhost file q v g h made files f cis a b way step lv eq) nt = absurd (nt tt)
-left laws s w x u t leaves turns served (TxTurning vhost file q told v g made cis a b way step eq) nt = absurd (nt tt)
+left laws s w x u t turns served (RxTurning vhost file q v g h made files f cis a b way step lv eq) nt = absurd (nt tt)
+left laws s w x u t turns served (TxTurning vhost file q told v g made cis a b way step eq) nt = absurd (nt tt)

@@ -14,7 +14,7 @@ use Rattle.vring_turns.specs.TxTurn.{TxState, TxTurn, tx_step}
 use Rattle.vhost_queue.specs.Queue.{Queue, IsQueueSize}
 use Rattle.vhost_queue.specs.Positions.{IsInOrder}
 use Rattle.tap_sound.proofs.Kit.{where_some, some_same}
-use Rattle.tap_sound.proofs.RingEvents.{free_none, alike_course, back_course, call_drives, effect_guests, last_serves, no_change, no_guests, none_rings, one_guest, one_rings, own_course, this_one, turn_rings, tx_only, tx_rings}
+use Rattle.tap_sound.proofs.RingEvents.{free_none, alike_course, back_course, effect_guests, last_serves, no_guests, none_rings, one_guest, one_rings, own_course, this_one, turn_rings, tx_only, tx_rings}
 use Rattle.tap_sound.proofs.Serving.{rx_idle, rx_stands_on, tx_idle, tx_stands_on, unserved, TurnLaws, hdr_more, held_by}
 use Rattle.vring_turns.specs.Standing.{RxStands, TxStands, ReceiveTurnsKeepOrder, TransmitTurnsKeepOrder}
 use Rattle.tap_world.specs.Effect.OnVhosts.{OnVhost, NoVhost}
@@ -34,7 +34,7 @@ use Rattle.tap_world.specs.Effect.OnGuests.{NoGuest, OnGuest}
 use Rattle.tap_world.specs.Scripts.{is_kind, next_kind}
 use Rattle.tap_world.specs.Sound.{EachVhost, EachActor}
 use Rattle.tap_world.specs.SoundActors.{CanBe}
-use Rattle.tap_sound.specs.Served.{leaves_rings, HaveRings}
+use Rattle.tap_sound.specs.Served.{HaveRings}
 use Rattle.tap_sound.proofs.RingSteps.{RxLeaves, TxLeaves, rx_changes, rx_leaves, tx_changes, tx_leaves}
 use Rattle.tap_sound.proofs.ServedOn.{Course, OldGuests, OldRings, SameRings, rings_on, served_between, served_ended, A}
 use Rattle.tap_sound.proofs.Taken.{IsStep, step_is, when_settled}
@@ -48,6 +48,7 @@ use Rattle.vring_split.specs.declared.layout.Layout.{Layout}
 use Rattle.vring_split.specs.Good.{IsGoodFor}
 use Rattle.vhost_dev.specs.Lists.{AreInOrder}
 use Rattle.tap_world.specs.World.Doing.{Begun, Receives, Transmits}
+use Rattle.tap_sound.proofs.CallRings.{DevLaws}
 use Rattle.tap_sound.proofs.RingsKept.{a_guest, mine_of, on_vhosts, rx_stands, rx_was, tx_stands, tx_was, vhosts_on}
 use Rattle.tap_sound.proofs.ServedMoved.{Elsewhere, Outcome, RingMove, rings_moved, served_moved}
 use Rattle.tap_sound.proofs.ServedMoved.Outcome.{Over, Rest, Serving}
@@ -65,6 +66,7 @@ pub record RingLaws : Type 0 where
   pub turn : TurnLaws
   pub rx_order : ReceiveTurnsKeepOrder
   pub tx_order : TransmitTurnsKeepOrder
+  pub dev : DevLaws
 
 -- nobody else serves a ring whose turn is free, or the actor's own
 pub others_free : (w : World) (me vhost r : ℕ) (v : Vhost) → TurnsAreHeld w vhost v → r < 2 → (turn_of r v ≡ None) ⊎ (turn_of r v ≡ Some me)

@@ -82,13 +82,14 @@ pub fn table_is_kept()
     ensures { TableIsKept }
 {}
 
-/// Every event but a Drive, which calls a vhost or a driver, keeps that the rings of vhosts are in order, and stand with the
-/// turns that serve them.
+/// Every event keeps that the rings of vhosts are in order, and stand with the turns that serve them.
 pub fn rings_are_kept()
     ensures { RingsAreKept }
 {
     vring_turns::receive_standing();
     vring_turns::transmit_standing();
+    vhost_dev::rings_stay_good();
+    vhost_dev::lists_stay_in_order();
 }
 
 /// So these parts of soundness hold in each world that a run ends in, and in each world on the way.
@@ -118,10 +119,12 @@ pub fn hand_is_owners()
     ensures reached { HandIsOwnersInRuns }
 {}
 
-/// So each of these events keeps a sound world sound, in all ten parts.
+/// So every event keeps a sound world sound, in all ten parts.
 pub fn soundness_is_kept()
     ensures { SoundnessIsKept }
 {
     vring_turns::receive_standing();
     vring_turns::transmit_standing();
+    vhost_dev::rings_stay_good();
+    vhost_dev::lists_stay_in_order();
 }

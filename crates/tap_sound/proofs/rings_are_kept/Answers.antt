@@ -11,4 +11,10 @@ returns c = laws.rings_are_kept (record {
   };
   rx_order = c.receive_standing.ensures.order;
   tx_order = c.transmit_standing.ensures.order;
+  dev = record {
+    sizes = c.rings_stay_good.ensures.sizes;
+    ready = c.rings_stay_good.ensures.ready;
+    good = c.rings_stay_good.ensures.good;
+    order = c.lists_stay_in_order.ensures.calls;
+  };
 })
