@@ -1,11 +1,11 @@
 -- A call on a vhost or a driver leaves the regions of its guest's memory, and its rings in order.
-use Rattle.std.proofs.Common.{◌≡◌, ℕ, ◌+◌, List, [], ◌∷◌, length, drop, Bool, true, false, Option, Some, None, refl, sym, ap, ◌∙◌, subst}
-use Rattle.std.specs.Prelude.{if◌then◌else◌, ◌==◌, ◌&&◌, is_none, is_some}
+use Rattle.std.proofs.Common.{◌≡◌, ℕ, ◌+◌, List, [], ◌∷◌, length, Bool, true, false, Option, Some, None, refl, sym, ap, ◌∙◌, subst}
+use Rattle.std.specs.Prelude.{if◌then◌else◌, ◌&&◌, is_none}
 use Rattle.std.specs.Option.{option_map_or}
 use Rattle.guest_mem.specs.Memory.{Contents}
 use Rattle.vring_split.specs.declared.layout.Layout.{Layout}
 use Rattle.vhost_dev.specs.declared.error.VhostErr.{VhostErr}
-use Rattle.vhost_dev.specs.Settings.{RingSettings, Settings, ring_at, ring_of}
+use Rattle.vhost_dev.specs.Settings.{Settings, ring_at}
 use Rattle.vhost_dev.specs.Laws.{BackedAreGood, BackedStayGood, Call, HaveSizes, ReadyIsGood, SizesStay, after, refusal_of, made_by}
 use Rattle.vhost_dev.specs.Lists.{CallsKeepOrder, HaveOrder, IsTimely}
 use Rattle.vhost_dev.specs.Calls.{chosen}
@@ -13,9 +13,9 @@ use Rattle.vring_drive.specs.declared.error.DriveErr.{DriveErr}
 use Rattle.vring_drive.specs.declared.error.PostErr.{PostErr}
 use Rattle.vring_drive.specs.Area.{drive_refusal}
 use Rattle.vring_drive.specs.Area as area
-use Rattle.vring_drive.specs.Books.{Books, chain_of, first_books, head_of}
+use Rattle.vring_drive.specs.Books.{Books, first_books}
 use Rattle.vring_drive.specs.Harvests.{harvested, harvested_in}
-use Rattle.vring_drive.specs.Posts.{filled, full_pieces, linked, offered, piece_lens, post_in_refusal, post_out_refusal, posted_in, posted_out}
+use Rattle.vring_drive.specs.Posts.{filled, full_pieces, linked, offered, post_in_refusal, post_out_refusal, posted_in, posted_out}
 use Rattle.scen_words.specs.declared.command.Command.{Command}
 use Rattle.scen_words.specs.declared.command.Command.TheVariants as command
 use Rattle.tap_trace.specs.declared.answer.Answer.TheVariants as answer

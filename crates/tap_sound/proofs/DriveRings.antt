@@ -1,58 +1,34 @@
 -- A Drive keeps rings in order, and served.
-use Rattle.std.proofs.Common.{true≢false, true, false, sym, ap, ◌∙◌, subst, refl, Some, None, Option, ⊎_elim, ◌<◌, zero, suc, arith, ◌≢◌, inl, inr, ◌≡◌, ◌⊎◌, ℕ, ◌+◌, List, [], ◌∷◌, Bool}
-use Rattle.std.specs.Prelude.{slice_get, if◌then◌else◌, ◌==◌, ◌&&◌, is_some, ◌||◌, is_none, not}
-use Rattle.tap_trace.specs.declared.turn.ChainText.{ChainText}
-use Rattle.tap_world.specs.World.{Actor, Doing, World, table, newest}
-use Rattle.tap_ledger.specs.declared.hand.Hand.{Hand}
-use Rattle.tap_ledger.specs.declared.act.Act.{Act}
-use Rattle.tap_world.specs.declared.event.Found.{Found}
-use Rattle.vring_turns.specs.declared.end.End.{End}
-use Rattle.tap_world.specs.Setup.{Numbered, Setup}
-use Rattle.guest_mem.specs.Memory.{Contents, covers}
-use Rattle.vring_turns.specs.RxTurn.{RxState, RxTurn, rx_step}
-use Rattle.vring_turns.specs.TxTurn.{TxState, TxTurn, tx_step}
-use Rattle.vhost_queue.specs.Queue.{Queue, IsQueueSize}
-use Rattle.vhost_queue.specs.Positions.{IsInOrder, IsIdle}
-use Rattle.tap_sound.proofs.Kit.{either, some_same, where_some}
-use Rattle.tap_sound.proofs.RingEvents.{free_none, alike_course, back_course, effect_guests, last_serves, no_guests, none_rings, one_guest, one_rings, own_course, this_one, turn_rings, tx_only, tx_rings}
-use Rattle.tap_sound.proofs.Serving.{rx_idle, rx_stands_on, tx_idle, tx_stands_on, unserved, TurnLaws, hdr_more, held_by}
-use Rattle.vring_turns.specs.Standing.{RxStands, TxStands, ReceiveTurnsKeepOrder, TransmitTurnsKeepOrder}
-use Rattle.tap_world.specs.Effect.OnVhosts.{OnVhost, NoVhost}
-use Rattle.tap_world.specs.Effect.{Onward, Effect, OnGuests, OnVhosts, guests_after, vhosts_after, only, actor_after}
-use Rattle.tap_world.specs.Effect.Onward.{Ends, Goes, Stays}
-use Rattle.tap_sound.proofs.Shapes.{RxWay, TxWay, Gives, Shape}
-use Rattle.tap_world.specs.SoundRings.{Serves, StandsWith, TurnsAreHeld, is_about, serves, IsServed, IsRing}
+use Rattle.std.proofs.Common.{true≢false, true, false, sym, ap, ◌∙◌, subst, refl, Some, None, Option, ⊎_elim, ◌<◌, arith, ◌≢◌, inl, inr, ◌≡◌, ◌⊎◌, ℕ, Bool}
+use Rattle.std.specs.Prelude.{slice_get, if◌then◌else◌, ◌==◌, ◌&&◌, ◌||◌, is_none, not}
+use Rattle.tap_world.specs.World.{Actor, Doing, World, table}
+use Rattle.tap_world.specs.Setup.{Setup}
+use Rattle.guest_mem.specs.Memory.{Contents}
+use Rattle.vhost_queue.specs.Positions.{IsIdle}
+use Rattle.tap_sound.proofs.Kit.{either, some_same}
+use Rattle.tap_world.specs.Effect.OnVhosts.{OnVhost}
+use Rattle.tap_world.specs.Effect.{Effect}
+use Rattle.tap_world.specs.SoundRings.{Serves, TurnsAreHeld, serves}
 use Rattle.tap_world.specs.Guests.{Guest, Vhost, turn_of, is_ring, with_turn, is_free_for}
 use Rattle.std.specs.Option.{option_map_or}
-use Rattle.vhost_dev.specs.Settings.{hdr_of, RingSettings, Settings, ring_at, with_ring}
+use Rattle.vhost_dev.specs.Settings.{RingSettings, Settings, ring_at, with_ring}
 use Rattle.scen_words.specs.declared.command.Command.{Command}
 use Rattle.tap_trace.specs.declared.kind.Kind.{Kind}
 use Rattle.tap_world.specs.declared.event.Event.{Event}
-use Rattle.tap_world.specs.declared.event.EventKind.{EventKind}
 use Rattle.tap_world.specs.ByNumber.{at}
 use Rattle.tap_world.specs.Effect.OnGuests.{NoGuest, OnGuest}
-use Rattle.tap_world.specs.Scripts.{is_kind, next_kind}
 use Rattle.tap_world.specs.Sound.{EachVhost, EachActor}
 use Rattle.tap_world.specs.SoundActors.{CanBe}
 use Rattle.tap_sound.specs.Served.{HaveRings}
-use Rattle.tap_sound.proofs.RingSteps.{RxLeaves, TxLeaves, rx_changes, rx_leaves, tx_changes, tx_leaves}
-use Rattle.tap_sound.proofs.ServedOn.{Course, OldGuests, OldRings, SameRings, rings_on, served_between, served_ended, A}
-use Rattle.tap_sound.proofs.Taken.{IsStep, step_is, when_settled, both}
-use Rattle.tap_sound.proofs.Turned.{at_is, itself, is_at, others}
-use Rattle.tap_sound.proofs.Turns.{about, effect_vhosts, and_false, held, two_rings, is_below}
-use Rattle.tap_sound.proofs.Writers.{course_is, doing_after, is_doing_after}
-use Rattle.tap_world.specs.declared.event.Heard.{Heard}
-use Rattle.tap_world.specs.Step.{step}
-use Rattle.tap_sound.proofs.Held.{shape_here}
-use Rattle.vring_split.specs.declared.layout.Layout.{Layout}
-use Rattle.vring_split.specs.Good.{IsGoodFor}
-use Rattle.vhost_dev.specs.Lists.{AreInOrder}
-use Rattle.tap_world.specs.World.Doing.{Backs, Begun, Receives, Released, Transmits, Unbacked}
-use Rattle.tap_sound.proofs.RingsKept.{a_guest, mine_of, on_vhosts, rx_stands, rx_was, tx_stands, tx_was, vhosts_on, same_guests}
-use Rattle.tap_sound.proofs.ServedMoved.{Elsewhere, Outcome, RingMove, rings_moved, served_moved}
-use Rattle.tap_sound.proofs.ServedMoved.Outcome.{Over, Rest, Serving}
+use Rattle.tap_sound.proofs.ServedOn.{OldGuests, A}
+use Rattle.tap_sound.proofs.Taken.{IsStep, both}
+use Rattle.tap_sound.proofs.Turns.{two_rings, is_below}
+use Rattle.tap_sound.proofs.Writers.{doing_after, is_doing_after}
+use Rattle.tap_world.specs.World.Doing.{Begun, Released, Unbacked}
+use Rattle.tap_sound.proofs.RingsKept.{a_guest, vhosts_on, same_guests}
+use Rattle.tap_sound.proofs.ServedMoved.{RingMove, rings_moved, served_moved}
+use Rattle.tap_sound.proofs.ServedMoved.Outcome.{Rest}
 use Rattle.tap_sound.proofs.ServedMoved.RingMove.{Redone, Still}
-use Rattle.tap_sound.proofs.StepFacts.{Does, RxDoes, TxDoes, lists_on, rx_does, tx_does}
 use Rattle.vhost_dev.specs.declared.error.VhostErr.{VhostErr}
 use Rattle.vhost_dev.specs.Laws.Call.{SetAddr, SetBackend, SetBase, SetFeatures, SetNum, UnsetBackend}
 use Rattle.vhost_dev.specs.Refusals.{number_refusal, ready_refusal}
@@ -63,15 +39,9 @@ use Rattle.tap_sound.proofs.CallRings.{BothRings, DevLaws, call_keeps, call_regi
 use Rattle.tap_sound.proofs.Calls.{Called, called_is}
 use Rattle.tap_sound.proofs.Calls.Called.{Addr, Base, Features, Num, Untouched}
 use Rattle.tap_sound.proofs.Standing.{answered, first_passed, ring_there}
-use Rattle.tap_sound.proofs.TurnRings.{about_after, about_before, others_free}
+use Rattle.tap_sound.proofs.TurnRings.{others_free}
 use Rattle.tap_trace.specs.declared.kind.Kind.TheVariants as kind
-use Rattle.scen_words.specs.declared.command.Command.TheVariants as command
-use Rattle.tap_world.specs.declared.event.EventKind.TheVariants as event
 use Rattle.tap_world.specs.StepBackend as back_steps
-use Rattle.tap_world.specs.StepTurns as rx_turns
-use Rattle.tap_world.specs.StepTransmits as tx_turns
-use Rattle.tap_steer.specs.declared.operation.Op.TheVariants as op
-use Rattle.tap_world.specs.declared.event.Found.TheVariants as found
 use Rattle.vhost_dev.specs.Calls as dev
 use Rattle.tap_steer.specs.Select as steer
 use Rattle.tap_world.specs.StepControl as control
@@ -104,7 +74,6 @@ at_other ring n r s a b no_ = ⊎_elim
     (two_rings ring a)
 
 module _ (s : Setup) (w : World) (x : Event) (u : World) (t : IsStep s w x u) where
-
   -- the command serves nothing, before and after
   free_before : serves t.actor.doing ≡ false → (n r : ℕ) → Serves n r t.actor → ⊥
   free_before is n r sv = true≢false (sym sv.0 ∙ is)

@@ -1,5 +1,5 @@
 -- Every event keeps rings in order, and served.
-use Rattle.std.proofs.Common.{◌≡◌, Some, refl, sym, ap, subst}
+use Rattle.std.proofs.Common.{◌≡◌, Some, sym, ap, subst}
 use Rattle.tap_world.specs.declared.event.Event.{Event}
 use Rattle.tap_world.specs.declared.event.Heard.{Heard}
 use Rattle.tap_world.specs.Setup.{Setup}
@@ -15,7 +15,7 @@ use Rattle.tap_sound.specs.Served.{HaveRings}
 use Rattle.tap_sound.proofs.DriveRings.{back_kept, call_kept}
 use Rattle.tap_sound.proofs.Held.{shape_here}
 use Rattle.tap_sound.proofs.Kit.{where_some}
-use Rattle.tap_sound.proofs.RingsKept.{IsOnRing, Left, a_guest, left}
+use Rattle.tap_sound.proofs.RingsKept.{Left, a_guest, left}
 use Rattle.tap_sound.proofs.ServedOn.{rings_on, served_between, served_ended}
 use Rattle.tap_sound.proofs.Shapes.{Shape}
 use Rattle.tap_sound.proofs.Shapes.Shape.{BackDrives, Calling, RxTurning, TxTurning}

@@ -1,26 +1,12 @@
 -- The events that leave rings, shape by shape.
 use Rattle.std.proofs.Common.{◌≡◌, ◌≢◌, ◌⊎◌, ℕ, zero, suc, List, [], ◌∷◌, Bool, true, false, Option, Some, None, inl, inr, ⊎_elim, refl, sym, ap, ◌∙◌, subst, true≢false, arith}
-use Rattle.std.specs.Prelude.{if◌then◌else◌, ◌==◌, is_none, is_some}
+use Rattle.std.specs.Prelude.{if◌then◌else◌, ◌==◌, is_none}
 use Rattle.std.proofs.lemmas.Bool.Decides.{eqb_tells}
 use Rattle.guest_mem.specs.Memory.{Contents}
-use Rattle.vhost_queue.specs.Positions.{IsIdle}
 use Rattle.vhost_queue.specs.Queue.{Queue}
-use Rattle.vhost_dev.specs.Settings.{ring_at}
-use Rattle.vring_turns.specs.declared.end.End.{End}
-use Rattle.vring_turns.specs.declared.stage.RxStage.{RxStage}
-use Rattle.vring_turns.specs.declared.stage.RxStage.TheVariants as rx
-use Rattle.vring_turns.specs.declared.stage.TxStage.{TxStage}
-use Rattle.vring_turns.specs.declared.stage.TxStage.TheVariants as tx
-use Rattle.vring_turns.specs.RxTurn.{RxTurn}
-use Rattle.vring_turns.specs.TxTurn.{TxTurn}
-use Rattle.vring_turns.specs.Standing.{RxStands, TxStands}
 use Rattle.scen_words.specs.declared.command.Command.{Command}
 use Rattle.scen_words.specs.declared.command.Command.TheVariants as command
-use Rattle.tap_trace.specs.declared.turn.ChainText.{ChainText}
 use Rattle.tap_trace.specs.declared.kind.Kind.{Kind}
-use Rattle.tap_world.specs.declared.event.EventKind.{EventKind}
-use Rattle.tap_world.specs.declared.event.EventKind.TheVariants as event
-use Rattle.tap_world.specs.declared.event.Found.{Found}
 use Rattle.tap_world.specs.ByNumber.{at, with_at}
 use Rattle.tap_world.specs.Guests.{Guest, Vhost, is_free, turn_of, with_queue, with_turn}
 use Rattle.tap_world.specs.World.{Actor, Doing, World}
@@ -28,19 +14,13 @@ use Rattle.tap_world.specs.World.Doing.{Backed, Changes, Disowned, Opened, Owns,
 use Rattle.tap_world.specs.Effect.{Effect, Onward, files_after, guests_after, with_effect}
 use Rattle.tap_world.specs.Effect.OnGuests.{NoGuest, OnGuest}
 use Rattle.tap_world.specs.Effect.Onward.{Ends, Goes, Stays}
-use Rattle.tap_world.specs.Scripts.{first_kind, is_kind, rx_next_kind, tx_next_kind}
 use Rattle.tap_world.specs.StepBackend as back_steps
-use Rattle.tap_world.specs.StepControl as control
-use Rattle.tap_world.specs.StepTurns as rx_turns
-use Rattle.tap_world.specs.StepTransmits as tx_turns
 use Rattle.tap_world.specs.SoundRings.{holds_turn, serves}
 use Rattle.tap_sound.proofs.Kit.{either, some_same, then_some}
 use Rattle.tap_sound.proofs.Claims.{with_at_inv}
-use Rattle.tap_sound.proofs.Follows.{same_kind}
-use Rattle.tap_sound.proofs.RingSteps.{rx_changes, tx_changes}
 use Rattle.tap_sound.proofs.ServedOn.{Course, OldGuests, OldRings, SameRings}
-use Rattle.tap_sound.proofs.ServedOn.Course.{Free, On, Over, Starts}
-use Rattle.tap_sound.proofs.Serving.{rx_idle, serves_holds, tx_idle}
+use Rattle.tap_sound.proofs.ServedOn.Course.{Free, On}
+use Rattle.tap_sound.proofs.Serving.{serves_holds}
 use Rattle.tap_sound.proofs.Shapes.{Alike, IsLast}
 use Rattle.tap_sound.proofs.Taken.{both}
 use Rattle.tap_sound.proofs.Turns.{about}

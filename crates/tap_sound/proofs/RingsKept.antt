@@ -1,6 +1,6 @@
 -- The events that leave rings keep them in order, and served as before.
 use Rattle.std.proofs.Common.{◌≡◌, ◌⊎◌, ℕ, ◌+◌, List, [], ◌∷◌, Bool, true, false, Option, Some, None, inl, inr, refl, sym, ap, ◌∙◌, subst, arith}
-use Rattle.std.specs.Prelude.{if◌then◌else◌, ◌==◌, ◌&&◌, is_some}
+use Rattle.std.specs.Prelude.{if◌then◌else◌, ◌==◌, ◌&&◌}
 use Rattle.std.specs.Option.{option_map_or}
 use Rattle.guest_mem.specs.Memory.{Contents}
 use Rattle.vhost_dev.specs.Settings.{hdr_of}
@@ -11,8 +11,6 @@ use Rattle.scen_words.specs.declared.command.Command.{Command}
 use Rattle.tap_trace.specs.declared.turn.ChainText.{ChainText}
 use Rattle.tap_trace.specs.declared.kind.Kind.{Kind}
 use Rattle.tap_world.specs.declared.event.Event.{Event}
-use Rattle.tap_world.specs.declared.event.EventKind.{EventKind}
-use Rattle.tap_world.specs.declared.event.Found.{Found}
 use Rattle.tap_world.specs.ByNumber.{at}
 use Rattle.tap_world.specs.Guests.{Guest, Vhost, is_ring, with_turn}
 use Rattle.tap_world.specs.Setup.{Setup}
@@ -22,30 +20,23 @@ use Rattle.tap_world.specs.Effect.{Effect, OnGuests, OnVhosts, Onward, guests_af
 use Rattle.tap_world.specs.Effect.OnGuests.{NoGuest, OnGuest}
 use Rattle.tap_world.specs.Effect.OnVhosts.{NoVhost, OnVhost}
 use Rattle.tap_world.specs.Effect.Onward.{Goes}
-use Rattle.tap_world.specs.Scripts.{is_kind, next_kind}
-use Rattle.tap_world.specs.Sound.{EachVhost, EachActor}
-use Rattle.tap_world.specs.SoundActors.{CanBe}
+use Rattle.tap_world.specs.Sound.{EachVhost}
 use Rattle.tap_world.specs.SoundRings.{IsServed, Serves, StandsWith, TurnsAreHeld, is_about, serves}
-use Rattle.tap_sound.specs.Served.{HaveRings}
 use Rattle.tap_sound.proofs.Kit.{some_same, where_some}
-use Rattle.tap_sound.proofs.RingSteps.{RxLeaves, TxLeaves, rx_changes, rx_leaves, tx_changes, tx_leaves}
-use Rattle.tap_sound.proofs.ServedOn.{Course, OldGuests, OldRings, SameRings, rings_on, served_between, served_ended}
+use Rattle.tap_sound.proofs.RingSteps.{TxLeaves, tx_changes, tx_leaves}
+use Rattle.tap_sound.proofs.ServedOn.{Course, OldGuests, OldRings, SameRings}
 use Rattle.tap_sound.proofs.ServedOn.Course.{Free, On}
-use Rattle.tap_sound.proofs.Serving.{TurnLaws, hdr_more, rx_stands_on, tx_stands_on, unserved}
+use Rattle.tap_sound.proofs.Serving.{TurnLaws, hdr_more, tx_stands_on, unserved}
 use Rattle.tap_sound.proofs.Shapes.{Gives, RxWay, Shape, TxWay}
 use Rattle.tap_sound.proofs.Shapes.Shape.{Approves, BackApproves, BackDrives, BackPublishes, Calling, Giving, Learning, Owning, Publishing, Quiet, Reopening, RxTurning, Shutting, Sizing, Touching, Trims, TxTurning, Withdrawing}
-use Rattle.tap_sound.proofs.Taken.{IsStep, step_is, when_settled}
+use Rattle.tap_sound.proofs.Taken.{IsStep}
 use Rattle.tap_sound.proofs.Turned.{itself}
 use Rattle.tap_sound.proofs.Turns.{about, effect_vhosts}
 use Rattle.tap_sound.proofs.Writers.{course_is}
-use Rattle.tap_world.specs.declared.event.Heard.{Heard}
 use Rattle.tap_world.specs.Step.{step}
-use Rattle.tap_sound.proofs.Held.{shape_here}
 use Rattle.tap_sound.proofs.RingEvents.{alike_course, back_course, effect_guests, last_serves, no_guests, none_rings, one_guest, one_rings, own_course, this_one, turn_rings, tx_only, free_none}
 use Rattle.scen_words.specs.declared.command.Command.TheVariants as command
-use Rattle.tap_world.specs.declared.event.EventKind.TheVariants as event
 use Rattle.tap_world.specs.StepBackend as back_steps
-use Rattle.tap_world.specs.StepTurns as rx_turns
 use Rattle.tap_world.specs.StepTransmits as tx_turns
 use Rattle.tap_steer.specs.declared.operation.Op.TheVariants as op
 use Rattle.tap_world.specs.declared.event.Found.TheVariants as found

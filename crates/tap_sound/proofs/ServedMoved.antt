@@ -1,10 +1,7 @@
 -- Rings that an event changes, in one vhost, and those that serve them.
-use Rattle.std.proofs.Common.{inl, inr, sym, ap, refl, subst, true, false, Some, zero, suc, arith, None, ◌≡◌, ◌≢◌, ◌⊎◌, ℕ, ◌<◌, List, Bool, Option, ⊎_elim, ◌∙◌, true≢false}
-use Rattle.std.specs.Prelude.{◌&&◌, ◌==◌, is_some, slice_get, drop, if◌then◌else◌, is_none, nat_lt, not}
-use Rattle.std.proofs.lemmas.Bool.Decides.{eqb_tells, leb_tells}
-use Rattle.guest_mem.specs.Memory.{covers}
-use Rattle.guest_mem.specs.declared.region.Region.{Region}
-use Rattle.vring_split.specs.Good.{IsGoodFor}
+use Rattle.std.proofs.Common.{inl, inr, sym, ap, refl, subst, true, false, Some, arith, None, ◌≡◌, ◌≢◌, ◌⊎◌, ℕ, ◌<◌, List, Bool, Option, ⊎_elim, ◌∙◌, true≢false}
+use Rattle.std.specs.Prelude.{◌&&◌, ◌==◌, is_some, slice_get}
+use Rattle.std.proofs.lemmas.Bool.Decides.{eqb_tells}
 use Rattle.vhost_queue.specs.Positions.{IsIdle}
 use Rattle.vhost_dev.specs.Settings.{RingSettings, ring_at}
 use Rattle.vring_turns.specs.Standing.{RxStands, TxStands}
@@ -14,24 +11,18 @@ use Rattle.tap_world.specs.ByNumber.{at, with_at}
 use Rattle.tap_world.specs.Guests.{Guest, Vhost, is_ring}
 use Rattle.tap_world.specs.Setup.{Numbered, Setup}
 use Rattle.tap_world.specs.World.{Actor, Doing, World, current}
-use Rattle.tap_world.specs.World.Doing.{Begun, Given, Receives, Teaches, Transmits}
-use Rattle.tap_world.specs.Effect.{Ending, Onward, actor_after, ended}
-use Rattle.tap_world.specs.Effect.Onward.{Ends, Goes, Stays}
+use Rattle.tap_world.specs.World.Doing.{Given, Receives, Teaches, Transmits}
 use Rattle.tap_world.specs.Sound.{EachVhost, EachActor}
-use Rattle.tap_world.specs.SoundRings.{HasRings, IsRing, IsServed, Serves, StandsWith, is_about, serves}
-use Rattle.tap_sound.proofs.Kit.{some_same}
-use Rattle.tap_sound.proofs.Scripts.{effect_actors}
-use Rattle.tap_sound.proofs.Taken.{IsEnding, IsStep, both}
-use Rattle.tap_sound.proofs.Turned.{with_nth_inv}
+use Rattle.tap_world.specs.SoundRings.{HasRings, IsRing, IsServed, Serves, StandsWith, is_about}
+use Rattle.tap_sound.proofs.Taken.{IsStep, both}
 use Rattle.tap_sound.proofs.Turns.{about, is_below}
-use Rattle.tap_sound.proofs.Views.{acted, other_still}
-use Rattle.tap_sound.proofs.Writers.{doing_after, is_doing_after}
+use Rattle.tap_sound.proofs.Views.{acted}
 use Rattle.std.specs.Option.{option_map_or}
 use Rattle.tap_world.specs.Then.{only_if}
 use Rattle.tap_world.specs.SoundActors.{CanBe, can_be}
 use Rattle.tap_sound.proofs.Claims.{with_at_inv}
 use Rattle.tap_sound.proofs.Stand.{stands_at}
-use Rattle.tap_sound.proofs.ServedOn.{A, OldGuests, actor_of, nobody, other_of, ring_on}
+use Rattle.tap_sound.proofs.ServedOn.{A, OldGuests, actor_of, nobody, ring_on}
 use Rattle.scen_words.specs.declared.command.Command.TheVariants as command
 
 equal : (a b : ℕ) → (a == b) ≡ true → a ≡ b
@@ -79,7 +70,6 @@ stands_ring v new n r b can sv same h =
     let c = current_about n r b sv.1 in stands_kind v new n r b.doing c.0.command (stands_at b c.0 c.1 can) c.2 same h
 
 module _ (s : Setup) (w : World) (x : Event) (u : World) (t : IsStep s w x u) (V : ℕ) (v new : Vhost) where
-
   -- a ring that changes: its command doesn't serve it, serves it from now on, or is over
   pub data Outcome (r : ℕ) : Type 0 where
     Rest : (Serves V r t.actor → ⊥) → (Serves V r (A s w x u t) → ⊥)

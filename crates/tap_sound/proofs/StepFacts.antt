@@ -9,8 +9,8 @@ use Rattle.vring_split.specs.declared.segment.Segment.{Segment}
 use Rattle.vring_walk.specs.declared.walk.Fetched.{Fetched}
 use Rattle.vring_walk.specs.declared.walk.Fetched.TheVariants as fetched
 use Rattle.vhost_queue.specs.declared.done.Done.{Done}
-use Rattle.vhost_queue.specs.Positions.{after, IsInOrder, Positions, Published, first_done, positions_from, published_from, with_done}
-use Rattle.vhost_queue.specs.Publication.{entry_bytes, next_used, noticed_in, published_in, with_entries, with_field, with_published}
+use Rattle.vhost_queue.specs.Positions.{after, IsInOrder, Positions, Published, first_done, published_from, with_done}
+use Rattle.vhost_queue.specs.Publication.{entry_bytes, next_used, published_in, with_entries, with_published}
 use Rattle.vhost_queue.specs.Queue.{Queue}
 use Rattle.vhost_dev.specs.Lists.{AreInOrder, IsClosed}
 use Rattle.tap_frame.specs.Frame.{FrameValue}
@@ -20,7 +20,6 @@ use Rattle.tap_ledger.specs.declared.act.Act.TheVariants as act
 use Rattle.tap_ledger.specs.declared.hand.Hand.{Hand}
 use Rattle.tap_ledger.specs.declared.hand.Hand.TheVariants as hand
 use Rattle.tap_ledger.specs.Host.{with_given}
-use Rattle.vring_turns.specs.declared.end.End.{End}
 use Rattle.vring_turns.specs.declared.stage.RxStage.{RxStage}
 use Rattle.vring_turns.specs.declared.stage.RxStage.TheVariants as rx
 use Rattle.vring_turns.specs.declared.stage.TxStage.{TxStage}

@@ -1,8 +1,8 @@
 -- The events of turns keep rings in order, and served.
-use Rattle.std.proofs.Common.{true≢false, true, false, sym, ap, ◌∙◌, subst, refl, Some, None, Option, ⊎_elim, ◌<◌, zero, suc, arith, ◌≢◌, inl, inr, ◌≡◌, ◌⊎◌, ℕ, ◌+◌, List, [], ◌∷◌, Bool}
-use Rattle.std.specs.Prelude.{slice_get, if◌then◌else◌, ◌==◌, ◌&&◌, is_some}
+use Rattle.std.proofs.Common.{true≢false, true, false, sym, ap, ◌∙◌, subst, refl, Some, None, Option, ⊎_elim, ◌<◌, arith, ◌≢◌, inl, inr, ◌≡◌, ◌⊎◌, ℕ, List, [], ◌∷◌, Bool}
+use Rattle.std.specs.Prelude.{slice_get, ◌==◌, ◌&&◌, is_some}
 use Rattle.tap_trace.specs.declared.turn.ChainText.{ChainText}
-use Rattle.tap_world.specs.World.{Actor, Doing, World, table, newest}
+use Rattle.tap_world.specs.World.{Actor, World}
 use Rattle.tap_ledger.specs.declared.hand.Hand.{Hand}
 use Rattle.tap_ledger.specs.declared.act.Act.{Act}
 use Rattle.tap_world.specs.declared.event.Found.{Found}
@@ -13,54 +13,39 @@ use Rattle.vring_turns.specs.RxTurn.{RxState, RxTurn, rx_step}
 use Rattle.vring_turns.specs.TxTurn.{TxState, TxTurn, tx_step}
 use Rattle.vhost_queue.specs.Queue.{Queue, IsQueueSize}
 use Rattle.vhost_queue.specs.Positions.{IsInOrder}
-use Rattle.tap_sound.proofs.Kit.{where_some, some_same}
-use Rattle.tap_sound.proofs.RingEvents.{free_none, alike_course, back_course, effect_guests, last_serves, no_guests, none_rings, one_guest, one_rings, own_course, this_one, turn_rings, tx_only, tx_rings}
-use Rattle.tap_sound.proofs.Serving.{rx_idle, rx_stands_on, tx_idle, tx_stands_on, unserved, TurnLaws, hdr_more, held_by}
+use Rattle.tap_sound.proofs.Kit.{where_some}
+use Rattle.tap_sound.proofs.RingEvents.{free_none}
+use Rattle.tap_sound.proofs.Serving.{rx_idle, rx_stands_on, tx_idle, tx_stands_on, unserved, TurnLaws, held_by}
 use Rattle.vring_turns.specs.Standing.{RxStands, TxStands, ReceiveTurnsKeepOrder, TransmitTurnsKeepOrder}
-use Rattle.tap_world.specs.Effect.OnVhosts.{OnVhost, NoVhost}
-use Rattle.tap_world.specs.Effect.{Onward, Effect, OnGuests, OnVhosts, guests_after, vhosts_after, only, actor_after}
+use Rattle.tap_world.specs.Effect.OnVhosts.{OnVhost}
+use Rattle.tap_world.specs.Effect.{Onward, actor_after}
 use Rattle.tap_world.specs.Effect.Onward.{Ends, Goes, Stays}
-use Rattle.tap_sound.proofs.Shapes.{RxWay, TxWay, Gives, Shape}
-use Rattle.tap_world.specs.SoundRings.{Serves, StandsWith, TurnsAreHeld, is_about, serves, IsServed, IsRing}
-use Rattle.tap_world.specs.Guests.{Guest, Vhost, turn_of, is_ring, with_turn}
-use Rattle.std.specs.Option.{option_map_or}
-use Rattle.vhost_dev.specs.Settings.{hdr_of, RingSettings}
-use Rattle.scen_words.specs.declared.command.Command.{Command}
-use Rattle.tap_trace.specs.declared.kind.Kind.{Kind}
+use Rattle.tap_sound.proofs.Shapes.{RxWay, TxWay}
+use Rattle.tap_world.specs.SoundRings.{Serves, StandsWith, TurnsAreHeld, is_about, serves, IsRing}
+use Rattle.tap_world.specs.Guests.{Guest, Vhost, turn_of}
+use Rattle.vhost_dev.specs.Settings.{RingSettings}
 use Rattle.tap_world.specs.declared.event.Event.{Event}
-use Rattle.tap_world.specs.declared.event.EventKind.{EventKind}
 use Rattle.tap_world.specs.ByNumber.{at}
-use Rattle.tap_world.specs.Effect.OnGuests.{NoGuest, OnGuest}
-use Rattle.tap_world.specs.Scripts.{is_kind, next_kind}
 use Rattle.tap_world.specs.Sound.{EachVhost, EachActor}
 use Rattle.tap_world.specs.SoundActors.{CanBe}
 use Rattle.tap_sound.specs.Served.{HaveRings}
-use Rattle.tap_sound.proofs.RingSteps.{RxLeaves, TxLeaves, rx_changes, rx_leaves, tx_changes, tx_leaves}
-use Rattle.tap_sound.proofs.ServedOn.{Course, OldGuests, OldRings, SameRings, rings_on, served_between, served_ended, A}
-use Rattle.tap_sound.proofs.Taken.{IsStep, step_is, when_settled}
+use Rattle.tap_sound.proofs.ServedOn.{OldGuests}
+use Rattle.tap_sound.proofs.Taken.{IsStep}
 use Rattle.tap_sound.proofs.Turned.{at_is, itself, is_at, others}
-use Rattle.tap_sound.proofs.Turns.{about, effect_vhosts, and_false, held, two_rings}
-use Rattle.tap_sound.proofs.Writers.{course_is}
-use Rattle.tap_world.specs.declared.event.Heard.{Heard}
+use Rattle.tap_sound.proofs.Turns.{about, and_false, two_rings}
 use Rattle.tap_world.specs.Step.{step}
-use Rattle.tap_sound.proofs.Held.{shape_here}
 use Rattle.vring_split.specs.declared.layout.Layout.{Layout}
 use Rattle.vring_split.specs.Good.{IsGoodFor}
-use Rattle.vhost_dev.specs.Lists.{AreInOrder}
-use Rattle.tap_world.specs.World.Doing.{Begun, Receives, Transmits}
+use Rattle.tap_world.specs.World.Doing.{Receives, Transmits}
 use Rattle.tap_sound.proofs.CallRings.{DevLaws}
-use Rattle.tap_sound.proofs.RingsKept.{a_guest, mine_of, on_vhosts, rx_stands, rx_was, tx_stands, tx_was, vhosts_on}
+use Rattle.tap_sound.proofs.RingsKept.{mine_of, rx_stands, rx_was, tx_stands, tx_was, vhosts_on}
 use Rattle.tap_sound.proofs.ServedMoved.{Elsewhere, Outcome, RingMove, rings_moved, served_moved}
-use Rattle.tap_sound.proofs.ServedMoved.Outcome.{Over, Rest, Serving}
+use Rattle.tap_sound.proofs.ServedMoved.Outcome.{Over, Serving}
 use Rattle.tap_sound.proofs.ServedMoved.RingMove.{Redone, Still}
 use Rattle.tap_sound.proofs.StepFacts.{Does, RxDoes, TxDoes, lists_on, rx_does, tx_does}
 use Rattle.scen_words.specs.declared.command.Command.TheVariants as command
-use Rattle.tap_world.specs.declared.event.EventKind.TheVariants as event
-use Rattle.tap_world.specs.StepBackend as back_steps
 use Rattle.tap_world.specs.StepTurns as rx_turns
 use Rattle.tap_world.specs.StepTransmits as tx_turns
-use Rattle.tap_steer.specs.declared.operation.Op.TheVariants as op
-use Rattle.tap_world.specs.declared.event.Found.TheVariants as found
 
 pub record RingLaws : Type 0 where
   pub turn : TurnLaws
@@ -96,7 +81,6 @@ ring_does g r q m n does order h = record {
 }
 
 module _ (s : Setup) (w : World) (x : Event) (u : World) (t : IsStep s w x u) where
-
   -- a receive turn
   pub rx_kept : RingLaws → EachActor w (λ actor a. CanBe a) → EachVhost w (TurnsAreHeld w) → HaveRings w → (vhost file : ℕ) (q : RxTurn) (v : Vhost) (g : Guest) (h : Hand) (made : RxState × Act) (f : Found)
       → t.now.command ≡ command.RxTurn vhost → at w.vhosts vhost ≡ Some v → at w.guests v.guest ≡ Some g → RxWay x.actor t.actor.doing file q v
@@ -106,9 +90,12 @@ module _ (s : Setup) (w : World) (x : Event) (u : World) (t : IsStep s w x u) wh
       → OldGuests w t.between.guests → HaveRings t.between
   rx_kept laws can turns each vhost file q v g h made f cis at_ got way step on vh guests = record {
     rings = rings_moved s w x u t vhost v new at_ (vhosts_on s w x u t (OnVhost vhost new) vh) guests refl
-        (λ k is rxr txr. (ring_does k v.settings.rx made.0.queue g.memory made.0.memory does
-        (λ base start order. laws.rx_order q made.0.turn v.settings.rx.queue made.0.queue
-        (record { before = rx_turns.rx_state q v g.memory; hand = h; told = made.1; after = made.0 } ∷ []) base start stands order (refl, refl, step, (refl, refl))) rxr, txr)) each.rings;
+        (λ k is rxr txr. (
+          ring_does k v.settings.rx made.0.queue g.memory made.0.memory does
+              (λ base start order. laws.rx_order q made.0.turn v.settings.rx.queue made.0.queue
+              (record { before = rx_turns.rx_state q v g.memory; hand = h; told = made.1; after = made.0 } ∷ []) base start stands order (refl, refl, step, (refl, refl))) rxr,
+          txr,
+        )) each.rings;
     served = served_moved s w x u t vhost v new at_ (vhosts_on s w x u t (OnVhost vhost new) vh) can moves elsewhere each.served;
   }
     where
@@ -177,9 +164,12 @@ module _ (s : Setup) (w : World) (x : Event) (u : World) (t : IsStep s w x u) wh
       → OldGuests w t.between.guests → HaveRings t.between
   tx_kept laws can turns each vhost file q told after v g made f cis at_ got way step on vh guests = record {
     rings = rings_moved s w x u t vhost v new at_ (vhosts_on s w x u t (OnVhost vhost new) vh) guests refl
-        (λ k is rxr txr. (rxr, ring_does k v.settings.tx made.0.queue g.memory made.0.memory does
-        (λ base start order. laws.tx_order q made.0.turn v.settings.tx.queue made.0.queue
-        (record { before = tx_turns.tx_state q v g.memory; told = made.1; after = made.0 } ∷ []) base start stands order (refl, refl, step, (refl, refl))) txr)) each.rings;
+        (λ k is rxr txr. (
+          rxr,
+          ring_does k v.settings.tx made.0.queue g.memory made.0.memory does
+              (λ base start order. laws.tx_order q made.0.turn v.settings.tx.queue made.0.queue
+              (record { before = tx_turns.tx_state q v g.memory; told = made.1; after = made.0 } ∷ []) base start stands order (refl, refl, step, (refl, refl))) txr,
+        )) each.rings;
     served = served_moved s w x u t vhost v new at_ (vhosts_on s w x u t (OnVhost vhost new) vh) can moves elsewhere each.served;
   }
     where
