@@ -61,3 +61,4 @@ mod TurnRings
 mod EventRings
 mod CallRings
 mod DriveRings
+mod SoundRuns

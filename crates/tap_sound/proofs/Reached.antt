@@ -44,7 +44,7 @@ phase_is_kept s (x ∷ es) w v e h =
 -- ---- a phase begins
 
 -- nobody is at a command
-abbrev IsStill : World → Type 0
+abbrev pub IsStill : World → Type 0
 IsStill w = (i : ℕ) (a : Actor) → slice_get w.actors i ≡ Some a → a.doing ≡ Begun
 
 new_seen : (p : Phase) (seen from n i : ℕ) (a : Actor) → slice_get (actors_from p seen from n) i ≡ Some a → a.seen ≡ seen
@@ -66,7 +66,7 @@ not_purging d file version a b = cc (a, b)
 no_more : (n m : ℕ) → n ≡ m → n ≤ m
 no_more n m e = omega (arith, e)
 
-begins_kept : (number : ℕ) (p : Phase) (w : World) → IsKept w → IsStill w → IsKept (begins number p w)
+pub begins_kept : (number : ℕ) (p : Phase) (w : World) → IsKept w → IsStill w → IsKept (begins number p w)
 begins_kept number p w h still = record {
   epochs = h.epochs;
   lines = h.lines;
@@ -97,7 +97,7 @@ no_actor i a h = cc (h)
 new_ordered : (d : Declared) → d.first ≤ 2 ^ 40 - 1 → IsOrdered (new_file d)
 new_ordered d le = record { parts = tt; batch = omega arith; places = omega (arith, le) }
 
-opening_kept : (s : Setup) → HasPlaces s → IsKept (opening s)
+pub opening_kept : (s : Setup) → HasPlaces s → IsKept (opening s)
 opening_kept s places = record {
   epochs = λ file f at_. let d = declared s.files file f at_ in subst HasEpochs d.2 (record { rise = tt; most = tt; kept = tt });
   lines = λ file f at_. let d = declared s.files file f at_ in subst IsOrdered d.2 (new_ordered d.0 (places file d.0 d.1));

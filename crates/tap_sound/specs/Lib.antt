@@ -9,3 +9,4 @@ pub mod Hand
 pub mod Tabled
 pub mod Served
 pub mod Soundness
+pub mod SoundRuns
