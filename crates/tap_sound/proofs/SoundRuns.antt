@@ -45,7 +45,7 @@ use Rattle.tap_steer.specs.Rules.{backer}
 use Rattle.vhost_dev.specs.Lists.{BeginOrdered}
 use Rattle.vhost_dev.specs.Settings.{first_ring, first_settings, ring_at}
 use Rattle.vhost_queue.specs.Queue.{IsQueueSize}
-use Rattle.tap_world.specs.Guests.{Guest, Vhost, new_guest, new_vhost}
+use Rattle.tap_world.specs.Guests.{Guest, Vhost, new_guest, new_vhost, turn_of}
 use Rattle.tap_world.specs.SoundRings.{is_about, HasRings, IsActor, IsRing, IsServed, Serves, TurnsAreHeld, holds_turn, serves}
 use Rattle.tap_world.specs.SoundTable.{has_of, of_table, on_side}
 use Rattle.tap_sound.specs.SoundRuns.{HasGuests}
@@ -54,6 +54,9 @@ use Rattle.tap_sound.proofs.Soundness.{soundness_is_kept}
 use Rattle.tap_sound.proofs.Agreeing.{agreed_of}
 use Rattle.tap_sound.proofs.Turned.{is_at, itself}
 use Rattle.vhost_queue.specs.Positions.{IsIdle}
+use Rattle.tap_sound.proofs.Views.{is_none_held}
+use Rattle.tap_sound.proofs.TableKept.{FitsWorld, into, onto}
+use Rattle.tap_sound.proofs.BackerEvents.{into_backs, onto_backs}
 use Rattle.tap_steer.specs.Table as tables
 use Rattle.tap_steer.specs.declared.files.File as table_files
 use Rattle.tap_sound.proofs.NamesKept as names
@@ -188,3 +191,94 @@ none_serves : (vhost file : ℕ) (xs : List Actor) → ((i : ℕ) (a : Actor) �
 none_serves vhost file [] h = refl
 none_serves vhost file (x ∷ xs) h =
     ap (λ (d : Doing). is_receiving file d && is_about vhost 0 (current x.script) || list_any (is_serving vhost file) xs) (h 0 x refl) ∙ none_serves vhost file xs (λ i. h (suc i))
+
+begins_sound : (s : Setup) (number : ℕ) (p : Phase) (w : World) → IsSound s w → IsStill w → IsSound s (begins number p w)
+begins_sound s number p w h still = record {
+  names = names.begins_kept number p w h.names;
+  room = h.room;
+  claims = kept.claims;
+  epochs = h.epochs;
+  shut = kept.shut;
+  agrees = fits.agrees;
+  known = h.known;
+  backends = onto_backs v Begun None (table s w) w.vhosts (is_none_held v free) (into_backs w Begun None (table s w) w.vhosts (is_none_held w free) h.backends);
+  found = fits.found;
+  hand = λ file f at_ vhost e.
+      let k = h.hand file f at_ vhost e in
+      absurd (true≢false (sym k.2 ∙ none_serves vhost file w.actors still));
+  rings = h.rings;
+  served = λ vhost r at_.
+      let k = h.served vhost r at_ in
+      record {
+        idle = λ ring below none. k.idle ring below (λ i a got sv. true≢false (sym sv.0 ∙ ap serves (still i a got)));
+        backed = λ ring i a got sv. absurd (true≢false (sym sv.0 ∙ ap serves (new_begun p (newest w) 0 p.actors i a got)));
+        stands = λ ring i a got sv. absurd (true≢false (sym sv.0 ∙ ap serves (new_begun p (newest w) 0 p.actors i a got)));
+      };
+  seen = kept.seen;
+  stand = kept.stand;
+  writer = λ i a got. ap holds (new_begun p (newest w) 0 p.actors i a got) ∙ sym (ap (is_at i) free);
+  turns = λ vhost r at_ ring i a below got.
+      ap (λ (d : Doing). holds_turn d && is_about vhost ring (current a.script)) (new_begun p (newest w) 0 p.actors i a got) ∙ sym (ap (is_at i) (turn_free vhost r at_ ring below));
+  holders = (subst (IsActor v) (sym free) tt, λ vhost r at_. (subst (IsActor v) (sym (turn_free vhost r at_ 0 (omega arith))) tt, subst (IsActor v) (sym (turn_free vhost r at_ 1 (omega arith))) tt));
+}
+  where
+    v : World
+    v = begins number p w
+
+    kept : IsKept v
+    kept = reached.begins_kept number p w (record {
+      epochs = h.epochs;
+      lines = λ file f at_. let r = h.room file f at_ in record { parts = r.parts; batch = r.batch; places = r.places };
+      claims = h.claims;
+      shut = h.shut;
+      seen = h.seen;
+      stand = h.stand;
+    }) still
+
+    free : w.writer ≡ None
+    free = still_free w w.writer still h.holders.0 (λ i a got. sym (ap holds (still i a got)) ∙ h.writer i a got)
+
+    turn_free : (vhost : ℕ) (r : Vhost) → at w.vhosts vhost ≡ Some r → (ring : ℕ) → ring < 2 → turn_of ring r ≡ None
+    turn_free vhost r at_ ring below = still_free w (turn_of ring r) still (there (ring == 0))
+        (λ i a got. sym (ap (λ (d : Doing). holds_turn d && is_about vhost ring (current a.script)) (still i a got)) ∙ h.turns vhost r at_ ring i a below got)
+      where
+        there : (b : Bool) → IsActor w (if b then r.rx_turn else r.tx_turn)
+        there true = (h.holders.1 vhost r at_).0
+        there false = (h.holders.1 vhost r at_).1
+
+    fits : FitsWorld s v
+    fits = onto v Begun None (table s w) w.files (is_none_held v free)
+        (into w Begun None (table s w) w.files (is_none_held w free) (record { agrees = h.agrees; known = h.known; found = h.found }))
+
+-- ---- runs
+
+run_sound : RingLaws → (s : Setup) (es : List Event) (w v : World) → run s es w ≡ Some v → IsSound s w → IsSound s v
+run_sound laws s [] w v e h = subst (IsSound s) (some_same w v e) h
+run_sound laws s (x ∷ es) w v e h =
+    let t = then_some (step s w x) _ v e in
+    run_sound laws s es t.0.0 v t.2 (soundness_is_kept laws s w x t.0 t.1 h)
+
+phases_sound : RingLaws → (s : Setup) (number : ℕ) (ps : List Phase) (es : List (List Event)) (w v : World) → run_phases s number ps es w ≡ Some v
+    → IsSound s w × IsStill w → IsSound s v × IsStill v
+phases_sound laws s number [] [] w v e h = subst (λ (q : World). IsSound s q × IsStill q) (some_same w v e) h
+phases_sound laws s number [] (d ∷ ds) w v e h = absurd (cc (e))
+phases_sound laws s number (p ∷ ps) [] w v e h = absurd (cc (e))
+phases_sound laws s number (p ∷ ps) (es ∷ more) w v e h =
+    let t = then_some (run s es (begins number p w)) _ v e in
+    let c = if_some (has_ended t.0) _ v t.2 in
+    let rest = run_rests s es (begins number p w) t.0 t.1 (begun_rest p (newest w) 0 p.actors) in
+    phases_sound laws s (number + 1) ps more t.0 v c.1
+    (run_sound laws s es (begins number p w) t.0 t.1 (begins_sound s number p w h.0 h.1), λ i a at_. rest i a at_ (ended_each t.0.actors i a c.0 at_))
+
+still_first : (s : Setup) → IsStill (opening s)
+still_first s i a got = absurd (nobody i a got)
+
+pub run_is_sound : RingLaws → BeginOrdered → (s : Scenario) (events : List (List Event)) (w : World) → HasPlaces (setup_of s) → HasGuests (setup_of s) → IsRun s events w → IsSound (setup_of s) w
+run_is_sound laws order s events w places guests e =
+    (phases_sound laws (setup_of s) 0 s.phases events (opening (setup_of s)) w e (opening_sound order (setup_of s) places guests, still_first (setup_of s))).0
+
+pub reached_is_sound : RingLaws → BeginOrdered → (s : Scenario) (w : World) → HasPlaces (setup_of s) → HasGuests (setup_of s) → IsReached s w → IsSound (setup_of s) w
+reached_is_sound laws order s w places guests r =
+    let before = phases_sound laws (setup_of s) 0 (take r.ended s.phases) r.events (opening (setup_of s)) r.before r.is_before
+    (opening_sound order (setup_of s) places guests, still_first (setup_of s)) in
+    run_sound laws (setup_of s) r.so_far (begins r.ended r.phase r.before) w r.is (begins_sound (setup_of s) r.ended r.phase r.before before.0 before.1)

@@ -15,6 +15,7 @@ ghost use Rattle.tap_sound.specs.Names.{NamesAreKept, NamesStandAfterRuns, Names
 ghost use Rattle.tap_sound.specs.Reached.{PhaseIsKept, ReachedIsKept, RunIsKept};
 ghost use Rattle.tap_sound.specs.Room.{RoomIsAlwaysKept};
 ghost use Rattle.tap_sound.specs.Served.{RingsAreKept};
+ghost use Rattle.tap_sound.specs.SoundRuns.{ReachedIsSound, RunIsSound};
 ghost use Rattle.tap_sound.specs.Soundness.{SoundnessIsKept};
 ghost use Rattle.tap_sound.specs.Tabled.{TableIsKept};
 ghost use Rattle.tap_sound.specs.Used.{UsedIsCounted};
@@ -122,6 +123,17 @@ pub fn hand_is_owners()
 /// So every event keeps a sound world sound, in all ten parts.
 pub fn soundness_is_kept()
     ensures { SoundnessIsKept }
+{
+    vring_turns::receive_standing();
+    vring_turns::transmit_standing();
+    vhost_dev::rings_stay_good();
+    vhost_dev::lists_stay_in_order();
+}
+
+/// So each world that a run reaches is sound, and the one that it ends in.
+pub fn runs_are_sound()
+    ensures reached { ReachedIsSound }
+    ensures ended { RunIsSound }
 {
     vring_turns::receive_standing();
     vring_turns::transmit_standing();
