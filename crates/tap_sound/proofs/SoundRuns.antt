@@ -1,39 +1,24 @@
 -- Every world that a run reaches is sound.
-use Rattle.std.proofs.Common.{◌≡◌, ℕ, zero, suc, ◌+◌, ◌-◌, ◌^◌, ◌≤◌, List, [], ◌∷◌, map, Option, Some, None, inl, ⊎_elim, refl, sym, ap, ◌∙◌, subst, arith, ◌<◌, length, get_or, Bool, true, false, true≢false, inr}
-use Rattle.std.specs.Prelude.{option_map, slice_get, take, is_some, max, ◌||◌, ◌&&◌, ◌↔◌, IsTrue, if◌then◌else◌, ◌==◌}
+use Rattle.std.proofs.Common.{◌≡◌, ℕ, zero, suc, ◌+◌, ◌-◌, ◌^◌, ◌≤◌, List, [], ◌∷◌, map, Option, Some, None, refl, sym, ap, ◌∙◌, subst, arith, ◌<◌, length, get_or, Bool, true, false, true≢false}
+use Rattle.std.specs.Prelude.{option_map, slice_get, take, is_some, ◌||◌, ◌&&◌, if◌then◌else◌, ◌==◌}
 use Rattle.scen_text.specs.declared.scenario.Phase.{Phase}
 use Rattle.scen_text.specs.declared.scenario.Scenario.{Scenario}
 use Rattle.tap_world.specs.declared.event.Event.{Event}
-use Rattle.tap_world.specs.declared.event.Heard.{Heard}
 use Rattle.tap_world.specs.ByNumber.{at}
-use Rattle.tap_world.specs.Setup.{Declared, Setup, script_in, setup_of, opening_table}
-use Rattle.tap_world.specs.Line.{Entry, File, is_empty}
+use Rattle.tap_world.specs.Setup.{Declared, Setup, setup_of}
+use Rattle.tap_world.specs.Line.{File}
 use Rattle.tap_world.specs.World.{Actor, Doing, World, newest, table, current}
-use Rattle.tap_world.specs.World.Doing.{Begun, Placed, Purges}
+use Rattle.tap_world.specs.World.Doing.{Begun}
 use Rattle.tap_world.specs.Step.{step}
 use Rattle.tap_world.specs.Runs.{IsRun, actors_from, begins, has_ended, new_file, opening, run, run_phases}
-use Rattle.tap_world.specs.Sound.{HasEpochs, IsSound, HandIsOwners, HasRoom, capacity_before, holds, is_serving, is_receiving}
-use Rattle.tap_world.specs.SoundActors.{CanBe}
-use Rattle.tap_sound.specs.Kept.{IsOrdered}
+use Rattle.tap_world.specs.Sound.{IsSound, HasRoom, capacity_before, holds, is_serving, is_receiving}
 use Rattle.tap_sound.specs.Reached.{HasPlaces, IsKept, IsReached}
 use Rattle.tap_sound.proofs.Kit.{some_same, then_some}
-use Rattle.tap_sound.proofs.Kept.{epochs_are_kept, lines_are_kept, versions_are_kept}
-use Rattle.tap_sound.proofs.Claims.{claims_are_kept}
-use Rattle.tap_sound.proofs.Shut.{any_is, shut_is_kept}
-use Rattle.tap_sound.proofs.Stand.{begun_stands, stands_are_kept}
 use Rattle.tap_sound.proofs.Scripts.{ended_each}
 use Rattle.tap_sound.proofs.Whole.{begun_rest, run_rests}
 use Rattle.tap_sound.proofs.Taken.{if_some}
-use Rattle.tap_sound.specs.Held.{IsHeld}
-use Rattle.tap_sound.specs.Served.{HaveRings}
-use Rattle.tap_sound.specs.Tabled.{HasTable}
-use Rattle.tap_sound.proofs.HandKept.{hand_is_kept}
-use Rattle.tap_sound.proofs.Held.{holders_are_kept}
 use Rattle.tap_sound.proofs.NamesKept.{names_are_kept}
-use Rattle.tap_sound.proofs.EventRings.{rings_are_kept}
-use Rattle.tap_sound.proofs.RoomKept.{room_is_always_kept}
 use Rattle.tap_sound.proofs.TurnRings.{RingLaws}
-use Rattle.tap_sound.proofs.Tabled.{table_is_kept}
 use Rattle.std.specs.Option.{option_map_or}
 use Rattle.std.specs.List.{list_any}
 use Rattle.std.specs.Int.{is_power_of_two}
@@ -44,10 +29,9 @@ use Rattle.tap_steer.specs.Table.{file_at, first}
 use Rattle.tap_steer.specs.Rules.{backer}
 use Rattle.vhost_dev.specs.Lists.{BeginOrdered}
 use Rattle.vhost_dev.specs.Settings.{first_ring, first_settings, ring_at}
-use Rattle.vhost_queue.specs.Queue.{IsQueueSize}
 use Rattle.tap_world.specs.Guests.{Guest, Vhost, new_guest, new_vhost, turn_of}
-use Rattle.tap_world.specs.SoundRings.{is_about, HasRings, IsActor, IsRing, IsServed, Serves, TurnsAreHeld, holds_turn, serves}
-use Rattle.tap_world.specs.SoundTable.{has_of, of_table, on_side}
+use Rattle.tap_world.specs.SoundRings.{is_about, HasRings, IsActor, IsRing, IsServed, holds_turn, serves}
+use Rattle.tap_world.specs.SoundTable.{has_of, on_side}
 use Rattle.tap_sound.specs.SoundRuns.{HasGuests}
 use Rattle.tap_sound.proofs.Reached.{IsStill, declared}
 use Rattle.tap_sound.proofs.Soundness.{soundness_is_kept}
