@@ -48,6 +48,9 @@ mod TableKept
 mod TableEvents
 mod Backers
 mod BackerEvents
+mod FreshTurns
+mod FreshRows
+mod FreshKept
 mod Tabled
 mod RingSteps
 mod Serving
@@ -62,3 +65,4 @@ mod EventRings
 mod CallRings
 mod DriveRings
 mod SoundRuns
+mod WorldsKept

@@ -163,7 +163,7 @@ begins_kept number p w h = record {
   accepted = λ i a at. begun_stand (begins number p w) p (newest w) 0 p.actors i a at i;
 }
 
-none_placed : (n : Name) (ds : List (Option Declared)) → times_placed n (map (λ (d : Option Declared). option_map new_file d) ds) ≡ 0
+pub none_placed : (n : Name) (ds : List (Option Declared)) → times_placed n (map (λ (d : Option Declared). option_map new_file d) ds) ≡ 0
 none_placed n [] = refl
 none_placed n (None ∷ ds) = let z = none_placed n ds in omega (arith, z)
 none_placed n (Some d ∷ ds) = let z = none_placed n ds in omega (arith, z)

@@ -25,7 +25,7 @@ use Rattle.tap_sound.proofs.Scripts.{ended_each}
 use Rattle.tap_sound.proofs.Whole.{begun_rest, run_rests}
 use Rattle.tap_sound.proofs.Taken.{if_some}
 
-step_kept : (s : Setup) (w : World) (x : Event) (u : World × Heard) → step s w x ≡ Some u → IsKept w → IsKept u.0
+pub step_kept : (s : Setup) (w : World) (x : Event) (u : World × Heard) → step s w x ≡ Some u → IsKept w → IsKept u.0
 step_kept s w x u e h = record {
   epochs = epochs_are_kept s w x u e h.epochs;
   lines = lines_are_kept s w x u e h.lines;

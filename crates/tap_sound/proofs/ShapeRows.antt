@@ -146,7 +146,7 @@ given_turns (Given file t told f) c is can = can
 given_turns d c is can = absurd is
 
 -- a look of a command other than a transmit turn is its first event
-look_first : (w : World) (d : Doing) (c : Command) → is_kind event.Look (next_kind w d c) ≡ true → can_be d c ≡ true → is_tx_turn c ≡ false → d ≡ Begun
+pub look_first : (w : World) (d : Doing) (c : Command) → is_kind event.Look (next_kind w d c) ≡ true → can_be d c ≡ true → is_tx_turn c ≡ false → d ≡ Begun
 look_first w d c next can other = go (look_from w d c next)
   where
     go : (d ≡ Begun) ⊎ IsGiven d → d ≡ Begun

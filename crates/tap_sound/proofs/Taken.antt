@@ -10,7 +10,7 @@ use Rattle.tap_world.specs.Setup.{Numbered, Setup}
 use Rattle.tap_world.specs.Line.{File, is_empty}
 use Rattle.tap_world.specs.World.{Actor, Doing, World, current}
 use Rattle.tap_world.specs.World.Doing.{Purges}
-use Rattle.tap_world.specs.Effect.{Effect, Ending, ended, ending, purge_of, settled, with_effect}
+use Rattle.tap_world.specs.Effect.{Effect, Ending, ended, ending, heard_by, purge_of, settled, with_effect}
 use Rattle.tap_world.specs.Scripts.{is_kind, next_kind}
 use Rattle.tap_world.specs.Stands.{are_new, if_new, names_of}
 use Rattle.tap_world.specs.Step.{effect, row, row_of, step, stepped}
@@ -71,31 +71,50 @@ if_some false o x e = absurd (cc (e))
 eqb_true : (a b : ℕ) → (a == b) ≡ true → a ≡ b
 eqb_true a b e = ⊎_elim (λ t. t.1) (λ t. absurd (true≢false (sym e ∙ t.0))) (eqb_tells a b)
 
+-- the row of an event: that of the command under way, whose next event has this kind
+pub record IsRow (s : Setup) (w : World) (e : Event) (r : Effect) : Type 0 where
+  pub actor : Actor
+  pub now : Numbered
+  pub found : slice_get w.actors e.actor ≡ Some actor
+  pub current_is : slice_get actor.script 0 ≡ Some now
+  pub number : now.number ≡ e.command
+  pub next : is_kind e.kind (next_kind w actor.doing now.command) ≡ true
+  pub is_row : row s w e.kind e.actor actor now.number now.command ≡ Some r
+
+abbrev row_at : Setup → World → Event → Actor → Numbered → Option Effect
+row_at s w e a c =
+    if c.number == e.command && is_kind e.kind (next_kind w a.doing c.command) then row s w e.kind e.actor a c.number c.command else None
+
+pub row_is : (s : Setup) (w : World) (e : Event) (r : Effect) → row_of s w e ≡ Some r → IsRow s w e r
+row_is s w e r h =
+    let b = then_some (slice_get w.actors e.actor) (λ a. current a.script >>= λ c. row_at s w e a c) r h in
+    let c = then_some (current b.0.script) (row_at s w e b.0) r b.2 in
+    let i = if_some (c.0.number == e.command && is_kind e.kind (next_kind w b.0.doing c.0.command)) (row s w e.kind e.actor b.0 c.0.number c.0.command) r c.2 in
+    let t = both (c.0.number == e.command) (is_kind e.kind (next_kind w b.0.doing c.0.command)) i.0 in
+    record { actor = b.0; now = c.0; found = b.1; current_is = c.1; number = eqb_true c.0.number e.command t.0; next = t.1; is_row = i.1 }
+
 pub step_is : (s : Setup) (w : World) (e : Event) (u : World × Heard) → step s w e ≡ Some u → IsStep s w e u.0
 step_is s w e u h =
     let r = then_some (effect s w e) (λ x. slice_get w.actors e.actor >>= λ a. stepped x e a w) u h in
     let a = then_some (slice_get w.actors e.actor) (λ y. stepped r.0 e y w) u r.2 in
-    let v = then_some (with_effect r.0 e.actor a.0 e.command w) _ u a.2 in
+    let v = then_some (with_effect r.0 e.actor a.0 e.command w) (λ y. Some (settled y (ending y), heard_by e.actor r.0.onward (ending y))) u a.2 in
     let q = then_some (row_of s w e) (λ x. if_new w x) r.0 r.1 in
     let o = only_some (are_new w (names_of q.0)) q.0 r.0 q.2 in
-    let b = then_some (slice_get w.actors e.actor) _ q.0 q.1 in
-    let c = then_some (current b.0.script) _ q.0 b.2 in
-    let i = if_some _ _ q.0 c.2 in
-    let t = both _ _ i.0 in
-    let same : b.0 ≡ a.0 = some_same b.0 a.0 (sym b.1 ∙ a.1) in
+    let b = row_is s w e q.0 q.1 in
+    let same : b.actor ≡ a.0 = some_same b.actor a.0 (sym b.found ∙ a.1) in
     record {
-      actor = b.0;
-      now = c.0;
+      actor = b.actor;
+      now = b.now;
       effect = r.0;
       between = v.0;
-      found = b.1;
-      current_is = c.1;
-      number = eqb_true c.0.number e.command t.0;
-      next = t.1;
-      is_row = i.1 ∙ ap Some o.1;
+      found = b.found;
+      current_is = b.current_is;
+      number = b.number;
+      next = b.next;
+      is_row = subst (λ y. row s w e.kind e.actor b.actor b.now.number b.now.command ≡ Some y) o.1 b.is_row;
       new = subst (λ x. are_new w (names_of x) ≡ true) o.1 o.0;
       made = subst (λ y. with_effect r.0 e.actor y e.command w ≡ Some v.0) (sym same) v.1;
-      is = ap (λ (x : World × Heard). x.0) (some_same _ u v.2);
+      is = ap (λ (x : World × Heard). x.0) (some_same (settled v.0 (ending v.0), heard_by e.actor r.0.onward (ending v.0)) u v.2);
     }
 
 -- ---- the end of a purge

@@ -7,6 +7,8 @@ pub mod Names
 pub mod Room
 pub mod Hand
 pub mod Tabled
+pub mod Fresh
 pub mod Served
 pub mod Soundness
 pub mod SoundRuns
+pub mod Worlds

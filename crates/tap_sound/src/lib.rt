@@ -1,12 +1,14 @@
 //! What is true of every run of a scenario: laws, each a function that does nothing. The statements stand in `specs/`.
 //!
 //! `specs/Laws.antt` says that a run's events are the scripts of its commands, and that nothing is left undone;
-//! `specs/Kept.antt` what each event keeps of what is sound, and `specs/Names.antt`, `specs/Hand.antt` and
-//! `specs/Room.antt` what it keeps of names, of a frame in hand and of the room in a line; `specs/Reached.antt` what
-//! therefore holds in every world of a run; `specs/Used.antt` what a trace tells of published chains. The proofs begin
-//! with `proofs/Kit.antt` and `proofs/Taken.antt`, which take a step apart.
+//! `specs/Kept.antt`, `specs/Names.antt`, `specs/Hand.antt`, `specs/Room.antt`, `specs/Held.antt`,
+//! `specs/Tabled.antt` and `specs/Served.antt` what each event keeps of what is sound, and `specs/Soundness.antt`
+//! which of them keep all of it; `specs/Reached.antt` and `specs/Worlds.antt` what therefore holds in every world
+//! of a run; `specs/Fresh.antt` that events have new names; `specs/Used.antt` what a trace tells of published
+//! chains. The proofs begin with `proofs/Kit.antt` and `proofs/Taken.antt`, which take a step apart.
 #![tactic(auto)]
 
+ghost use Rattle.tap_sound.specs.Fresh.{NamesAreNew};
 ghost use Rattle.tap_sound.specs.Hand.{HandIsKept, HandIsOwnersInRuns};
 ghost use Rattle.tap_sound.specs.Held.{HoldersAreKept};
 ghost use Rattle.tap_sound.specs.Kept.{ClaimsAreKept, EpochsAreKept, LinesAreKept, RoomIsKept, ShutIsKept, StandsAreKept, VersionsAreKept};
@@ -19,6 +21,7 @@ ghost use Rattle.tap_sound.specs.SoundRuns.{ReachedIsSound, RunIsSound};
 ghost use Rattle.tap_sound.specs.Soundness.{SoundnessIsKept};
 ghost use Rattle.tap_sound.specs.Tabled.{TableIsKept};
 ghost use Rattle.tap_sound.specs.Used.{UsedIsCounted};
+ghost use Rattle.tap_sound.specs.Worlds.{ReachedIsSoundButRings, SoundButRingsIsKept};
 
 /// In a run the events of each actor are the scripts of its commands, one after another; on the way to its end the last
 /// of them may be the beginning of one.
@@ -120,6 +123,11 @@ pub fn hand_is_owners()
     ensures reached { HandIsOwnersInRuns }
 {}
 
+/// No event of a world that a run reaches is refused for its names.
+pub fn names_are_new()
+    ensures { NamesAreNew }
+{}
+
 /// So every event keeps a sound world sound, in all ten parts.
 pub fn soundness_is_kept()
     ensures { SoundnessIsKept }
@@ -140,3 +148,9 @@ pub fn runs_are_sound()
     vhost_dev::rings_stay_good();
     vhost_dev::lists_stay_in_order();
 }
+
+/// Every event keeps all parts of what is sound but what rings are, and they hold in each world that a run reaches.
+pub fn sound_but_rings()
+    ensures kept { SoundButRingsIsKept }
+    ensures reached { ReachedIsSoundButRings }
+{}
