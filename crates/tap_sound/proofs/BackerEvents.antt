@@ -54,10 +54,10 @@ use Rattle.tap_world.specs.StepTransmits as tx_turns
 abbrev pub Backings : Setup → World → Type 0
 Backings s w = HaveBackends (writing w) (commanded w) (table s w) w.vhosts
 
-into_backs : (w : World) (d : Doing) (c : Option Command) (t : Table) (vhosts : Vhosts) → Is w d c → HaveBackends (writing w) (commanded w) t vhosts → HaveBackends d c t vhosts
+pub into_backs : (w : World) (d : Doing) (c : Option Command) (t : Table) (vhosts : Vhosts) → Is w d c → HaveBackends (writing w) (commanded w) t vhosts → HaveBackends d c t vhosts
 into_backs w d c t vhosts is h = subst (λ (x : Doing). HaveBackends x c t vhosts) is.0 (subst (λ (k : Option Command). HaveBackends (writing w) k t vhosts) is.1 h)
 
-onto_backs : (v : World) (d : Doing) (c : Option Command) (t : Table) (vhosts : Vhosts) → Is v d c → HaveBackends d c t vhosts → HaveBackends (writing v) (commanded v) t vhosts
+pub onto_backs : (v : World) (d : Doing) (c : Option Command) (t : Table) (vhosts : Vhosts) → Is v d c → HaveBackends d c t vhosts → HaveBackends (writing v) (commanded v) t vhosts
 onto_backs v d c t vhosts is h = subst (λ (x : Doing). HaveBackends x (commanded v) t vhosts) (sym is.0) (subst (λ (k : Option Command). HaveBackends d k t vhosts) (sym is.1) h)
 
 module _ (s : Setup) (w : World) (x : Event) (u : World) (t : IsStep s w x u) where

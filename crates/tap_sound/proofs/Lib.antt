@@ -58,4 +58,11 @@ mod ServedOn
 mod RingEvents
 mod RingsKept
 mod Soundness
+mod StepFacts
+mod ServedMoved
+mod TurnRings
+mod EventRings
+mod CallRings
+mod DriveRings
+mod SoundRuns
 mod WorldsKept

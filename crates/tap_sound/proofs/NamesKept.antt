@@ -156,7 +156,7 @@ begun_stand w p seen from (suc n) zero a e actor =
     subst (AcceptedStand w actor) (some_same (record { seen = seen; script = script_in p from; doing = Begun }) a e) (λ c is. tt)
 begun_stand w p seen from (suc n) (suc i) a e actor = begun_stand w p seen (from + 1) n i a e actor
 
-begins_kept : (number : ℕ) (p : Phase) (w : World) → NamesStandOnce w → NamesStandOnce (begins number p w)
+pub begins_kept : (number : ℕ) (p : Phase) (w : World) → NamesStandOnce w → NamesStandOnce (begins number p w)
 begins_kept number p w h = record {
   once = h.once;
   ended = h.ended;
@@ -171,7 +171,7 @@ none_placed n (Some d ∷ ds) = let z = none_placed n ds in omega (arith, z)
 no_actor : (i : ℕ) (a : Actor) → slice_get {X = Actor} [] i ≡ Some a → ⊥
 no_actor i a h = cc (h)
 
-opening_kept : (s : Setup) → NamesStandOnce (opening s)
+pub opening_kept : (s : Setup) → NamesStandOnce (opening s)
 opening_kept s = record {
   once = λ n. let z = none_placed n s.files in omega (arith, z);
   ended = tt;

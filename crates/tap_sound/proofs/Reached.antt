@@ -44,7 +44,7 @@ phase_is_kept s (x ∷ es) w v e h =
 -- ---- a phase begins
 
 -- nobody is at a command
-abbrev IsStill : World → Type 0
+abbrev pub IsStill : World → Type 0
 IsStill w = (i : ℕ) (a : Actor) → slice_get w.actors i ≡ Some a → a.doing ≡ Begun
 
 new_seen : (p : Phase) (seen from n i : ℕ) (a : Actor) → slice_get (actors_from p seen from n) i ≡ Some a → a.seen ≡ seen

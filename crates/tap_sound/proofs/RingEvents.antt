@@ -1,26 +1,12 @@
 -- The events that leave rings, shape by shape.
 use Rattle.std.proofs.Common.{◌≡◌, ◌≢◌, ◌⊎◌, ℕ, zero, suc, List, [], ◌∷◌, Bool, true, false, Option, Some, None, inl, inr, ⊎_elim, refl, sym, ap, ◌∙◌, subst, true≢false, arith}
-use Rattle.std.specs.Prelude.{if◌then◌else◌, ◌==◌, is_none, is_some}
+use Rattle.std.specs.Prelude.{if◌then◌else◌, ◌==◌, is_none}
 use Rattle.std.proofs.lemmas.Bool.Decides.{eqb_tells}
 use Rattle.guest_mem.specs.Memory.{Contents}
-use Rattle.vhost_queue.specs.Positions.{IsIdle}
 use Rattle.vhost_queue.specs.Queue.{Queue}
-use Rattle.vhost_dev.specs.Settings.{ring_at}
-use Rattle.vring_turns.specs.declared.end.End.{End}
-use Rattle.vring_turns.specs.declared.stage.RxStage.{RxStage}
-use Rattle.vring_turns.specs.declared.stage.RxStage.TheVariants as rx
-use Rattle.vring_turns.specs.declared.stage.TxStage.{TxStage}
-use Rattle.vring_turns.specs.declared.stage.TxStage.TheVariants as tx
-use Rattle.vring_turns.specs.RxTurn.{RxTurn}
-use Rattle.vring_turns.specs.TxTurn.{TxTurn}
-use Rattle.vring_turns.specs.Standing.{RxStands, TxStands}
 use Rattle.scen_words.specs.declared.command.Command.{Command}
 use Rattle.scen_words.specs.declared.command.Command.TheVariants as command
-use Rattle.tap_trace.specs.declared.turn.ChainText.{ChainText}
 use Rattle.tap_trace.specs.declared.kind.Kind.{Kind}
-use Rattle.tap_world.specs.declared.event.EventKind.{EventKind}
-use Rattle.tap_world.specs.declared.event.EventKind.TheVariants as event
-use Rattle.tap_world.specs.declared.event.Found.{Found}
 use Rattle.tap_world.specs.ByNumber.{at, with_at}
 use Rattle.tap_world.specs.Guests.{Guest, Vhost, is_free, turn_of, with_queue, with_turn}
 use Rattle.tap_world.specs.World.{Actor, Doing, World}
@@ -28,20 +14,13 @@ use Rattle.tap_world.specs.World.Doing.{Backed, Changes, Disowned, Opened, Owns,
 use Rattle.tap_world.specs.Effect.{Effect, Onward, files_after, guests_after, with_effect}
 use Rattle.tap_world.specs.Effect.OnGuests.{NoGuest, OnGuest}
 use Rattle.tap_world.specs.Effect.Onward.{Ends, Goes, Stays}
-use Rattle.tap_world.specs.Scripts.{first_kind, is_kind, rx_next_kind, tx_next_kind}
 use Rattle.tap_world.specs.StepBackend as back_steps
-use Rattle.tap_world.specs.StepControl as control
-use Rattle.tap_world.specs.StepTurns as rx_turns
-use Rattle.tap_world.specs.StepTransmits as tx_turns
 use Rattle.tap_world.specs.SoundRings.{holds_turn, serves}
-use Rattle.tap_sound.specs.Served.{leaves_rings}
 use Rattle.tap_sound.proofs.Kit.{either, some_same, then_some}
 use Rattle.tap_sound.proofs.Claims.{with_at_inv}
-use Rattle.tap_sound.proofs.Follows.{same_kind}
-use Rattle.tap_sound.proofs.RingSteps.{rx_changes, tx_changes}
 use Rattle.tap_sound.proofs.ServedOn.{Course, OldGuests, OldRings, SameRings}
-use Rattle.tap_sound.proofs.ServedOn.Course.{Free, On, Over, Starts}
-use Rattle.tap_sound.proofs.Serving.{rx_idle, serves_holds, tx_idle}
+use Rattle.tap_sound.proofs.ServedOn.Course.{Free, On}
+use Rattle.tap_sound.proofs.Serving.{serves_holds}
 use Rattle.tap_sound.proofs.Shapes.{Alike, IsLast}
 use Rattle.tap_sound.proofs.Taken.{both}
 use Rattle.tap_sound.proofs.Turns.{about}
@@ -98,46 +77,6 @@ tx_only vhost n ring e = let b = both (vhost == n) (1 == ring) e in (equal vhost
 pub this_one : (w : World) (vhost n : ℕ) (v u : Vhost) → vhost ≡ n → at w.vhosts vhost ≡ Some v → at w.vhosts n ≡ Some u → v ≡ u
 this_one w vhost n v u same a b = some_same v u (sym a ∙ ap (at w.vhosts) same ∙ b)
 
-pub rx_course : (w : World) (seen vhost file : ℕ) (d : Doing) (v : Vhost) (u : RxTurn) (q : Queue) (f : Found) → at w.vhosts vhost ≡ Some v → q ≡ v.settings.rx.queue
-    → ((serves d ≡ true) × (d ≡ d)) ⊎ ((serves d ≡ false) × (v.settings.rx.file ≡ Some file)) → RxStands u q → (o : Option End) → rx_turns.rx_over u.stage ≡ o
-    → Course w d (rx_turns.rx_onward seen file u f o) (command.RxTurn vhost)
-rx_course w seen vhost file d v u q f at_ same (inl was) stands None over =
-    On (sym was.0) tt (λ n ring y got ab k. subst (λ (z : Vhost). RxStands u z.settings.rx.queue) (this_one w vhost n v y (rx_only vhost n ring ab).0 at_ got) (subst (RxStands u) same stands))
-rx_course w seen vhost file d v u q f at_ same (inr was) stands None over =
-    Starts was.0 tt (λ n ring y got ab.
-    let only_ = rx_only vhost n ring ab in
-    let it = this_one w vhost n v y only_.0 at_ got in (
-      subst (λ (z : Vhost). is_some (ring_at ring z.settings).file ≡ true) it
-          (subst (λ (k : ℕ). is_some (ring_at k v.settings).file ≡ true) only_.1 (ap (λ (o : Option ℕ). is_some o) was.1)),
-      subst (λ (z : Vhost). RxStands u z.settings.rx.queue) it (subst (RxStands u) same stands),
-    ))
-rx_course w seen vhost file d v u q f at_ same was stands (Some e) over =
-    Over refl (λ n ring y got below ab.
-    let only_ = rx_only vhost n ring ab in
-    let it = this_one w vhost n v y only_.0 at_ got in
-    subst (λ (z : Vhost). IsIdle (ring_at ring z.settings).queue.positions) it
-    (subst (λ (k : ℕ). IsIdle (ring_at k v.settings).queue.positions) only_.1 (subst (λ (z : Queue). IsIdle z.positions) same (rx_idle u q u.stage e refl over stands))))
-
-pub tx_course : (w : World) (seen vhost file : ℕ) (d : Doing) (v : Vhost) (u : TxTurn) (told : List ChainText) (q : Queue) (f : Found) → at w.vhosts vhost ≡ Some v → q ≡ v.settings.tx.queue
-    → ((serves d ≡ true) × (d ≡ d)) ⊎ ((serves d ≡ false) × (v.settings.tx.file ≡ Some file)) → TxStands u q → (o : Option End) → tx_turns.tx_over u.stage ≡ o
-    → Course w d (tx_turns.tx_onward seen file u told f o) (command.TxTurn vhost)
-tx_course w seen vhost file d v u told q f at_ same (inl was) stands None over =
-    On (sym was.0) tt (λ n ring y got ab k. subst (λ (z : Vhost). TxStands u z.settings.tx.queue) (this_one w vhost n v y (tx_only vhost n ring ab).0 at_ got) (subst (TxStands u) same stands))
-tx_course w seen vhost file d v u told q f at_ same (inr was) stands None over =
-    Starts was.0 tt (λ n ring y got ab.
-    let only_ = tx_only vhost n ring ab in
-    let it = this_one w vhost n v y only_.0 at_ got in (
-      subst (λ (z : Vhost). is_some (ring_at ring z.settings).file ≡ true) it
-          (subst (λ (k : ℕ). is_some (ring_at k v.settings).file ≡ true) only_.1 (ap (λ (o : Option ℕ). is_some o) was.1)),
-      subst (λ (z : Vhost). TxStands u z.settings.tx.queue) it (subst (TxStands u) same stands),
-    ))
-tx_course w seen vhost file d v u told q f at_ same was stands (Some e) over =
-    Over refl (λ n ring y got below ab.
-    let only_ = tx_only vhost n ring ab in
-    let it = this_one w vhost n v y only_.0 at_ got in
-    subst (λ (z : Vhost). IsIdle (ring_at ring z.settings).queue.positions) it
-    (subst (λ (k : ℕ). IsIdle (ring_at k v.settings).queue.positions) only_.1 (subst (λ (z : Queue). IsIdle z.positions) same (tx_idle u q u.stage e refl over stands))))
-
 -- ---- vhosts and guests
 
 pub with_at_get : {A : Type 0} (n : ℕ) (new : A) (xs : List (Option A)) (k : ℕ) (a : A) → at xs k ≡ Some a
@@ -192,38 +131,6 @@ rx_rings o q v same = (refl, ap (λ (y : Queue). record v.settings.rx { queue = 
 
 pub tx_rings : (o : Option ℕ) (q : Queue) (v : Vhost) → q ≡ v.settings.tx.queue → SameRings v (with_turn 1 o (with_queue 1 q v))
 tx_rings o q v same = (refl, refl, ap (λ (y : Queue). record v.settings.tx { queue = y }) same)
-
--- ---- which stages
-
-pub no_change : (k j : EventKind) → leaves_rings k ≡ true → leaves_rings j ≡ false → is_kind k (Some j) ≡ true → ⊥
-no_change k j a b e = true≢false (sym a ∙ ap leaves_rings (same_kind k j e) ∙ b)
-
-pub rx_stays : (w : World) (file : ℕ) (st : RxStage) (k : EventKind) → leaves_rings k ≡ true → is_kind k (rx_next_kind w file st) ≡ true → rx_changes st ≡ false
-rx_stays w file rx.Fetch k a e = absurd (no_change k event.Fetch a refl e)
-rx_stays w file rx.FetchAgain k a e = absurd (no_change k event.Fetch a refl e)
-rx_stays w file rx.Copy k a e = absurd (no_change k event.Copy a refl e)
-rx_stays w file (rx.Publish end) k a e = absurd (no_change k event.PublishUsed a refl e)
-rx_stays w file st k a e = refl
-
-pub tx_stays : (st : TxStage) (k : EventKind) → leaves_rings k ≡ true → is_kind k (tx_next_kind st) ≡ true → tx_changes st ≡ false
-tx_stays tx.Fetch k a e = absurd (no_change k event.Fetch a refl e)
-tx_stays tx.FetchAgain k a e = absurd (no_change k event.Fetch a refl e)
-tx_stays tx.Copy k a e = absurd (no_change k event.Copy a refl e)
-tx_stays (tx.Publish end) k a e = absurd (no_change k event.PublishUsed a refl e)
-tx_stays st k a e = refl
-
--- a call is made at its Drive
-pub call_drives : (w : World) (c : Command) (vhost : ℕ) → control.vhost_of c ≡ Some vhost → first_kind w c ≡ event.Drive
-call_drives w (command.Features n bits) vhost e = refl
-call_drives w (command.VNum n ring k) vhost e = refl
-call_drives w (command.VBase n ring k) vhost e = refl
-call_drives w (command.VAddr n ring desc avail used) vhost e = refl
-call_drives w (command.GetBase n ring) vhost e = refl
-call_drives w (command.DriveAt n ring addr) vhost e = refl
-call_drives w (command.PostIn n ring lens) vhost e = refl
-call_drives w (command.PostOut n ring bytes) vhost e = refl
-call_drives w (command.Harvest n ring) vhost e = refl
-call_drives w c vhost e = absurd (cc (e))
 
 -- a turn that is free
 pub free_none : (ring : ℕ) (v : Vhost) → is_free ring v ≡ true → turn_of ring v ≡ None

@@ -25,11 +25,11 @@ RxLeaves s made = (made.0.queue ≡ s.queue) × (made.0.memory.regions ≡ s.mem
 abbrev pub TxLeaves : TxState → TxState × Act → Type 0
 TxLeaves s made = (made.0.queue ≡ s.queue) × (made.0.memory.regions ≡ s.memory.regions)
 
-field_regions : (addr number : ℕ) (m : Contents) → (with_field addr number m).regions ≡ m.regions
+pub field_regions : (addr number : ℕ) (m : Contents) → (with_field addr number m).regions ≡ m.regions
 unfolding with_field
 field_regions addr number m = refl
 
-notice_regions : (l : Layout) (next : ℕ) (on : Bool) (m : Contents) → (noticed_at l next on m).regions ≡ m.regions
+pub notice_regions : (l : Layout) (next : ℕ) (on : Bool) (m : Contents) → (noticed_at l next on m).regions ≡ m.regions
 unfolding noticed_at
 notice_regions l next on m = go l.event on _ _ _
   where

@@ -1,6 +1,6 @@
 -- The events that leave rings keep them in order, and served as before.
 use Rattle.std.proofs.Common.{◌≡◌, ◌⊎◌, ℕ, ◌+◌, List, [], ◌∷◌, Bool, true, false, Option, Some, None, inl, inr, refl, sym, ap, ◌∙◌, subst, arith}
-use Rattle.std.specs.Prelude.{if◌then◌else◌, ◌==◌, ◌&&◌, is_some}
+use Rattle.std.specs.Prelude.{if◌then◌else◌, ◌==◌, ◌&&◌}
 use Rattle.std.specs.Option.{option_map_or}
 use Rattle.guest_mem.specs.Memory.{Contents}
 use Rattle.vhost_dev.specs.Settings.{hdr_of}
@@ -11,8 +11,6 @@ use Rattle.scen_words.specs.declared.command.Command.{Command}
 use Rattle.tap_trace.specs.declared.turn.ChainText.{ChainText}
 use Rattle.tap_trace.specs.declared.kind.Kind.{Kind}
 use Rattle.tap_world.specs.declared.event.Event.{Event}
-use Rattle.tap_world.specs.declared.event.EventKind.{EventKind}
-use Rattle.tap_world.specs.declared.event.Found.{Found}
 use Rattle.tap_world.specs.ByNumber.{at}
 use Rattle.tap_world.specs.Guests.{Guest, Vhost, is_ring, with_turn}
 use Rattle.tap_world.specs.Setup.{Setup}
@@ -22,42 +20,35 @@ use Rattle.tap_world.specs.Effect.{Effect, OnGuests, OnVhosts, Onward, guests_af
 use Rattle.tap_world.specs.Effect.OnGuests.{NoGuest, OnGuest}
 use Rattle.tap_world.specs.Effect.OnVhosts.{NoVhost, OnVhost}
 use Rattle.tap_world.specs.Effect.Onward.{Goes}
-use Rattle.tap_world.specs.Scripts.{is_kind, next_kind}
-use Rattle.tap_world.specs.Sound.{EachVhost, EachActor}
-use Rattle.tap_world.specs.SoundActors.{CanBe}
+use Rattle.tap_world.specs.Sound.{EachVhost}
 use Rattle.tap_world.specs.SoundRings.{IsServed, Serves, StandsWith, TurnsAreHeld, is_about, serves}
-use Rattle.tap_sound.specs.Served.{leaves_rings, HaveRings}
 use Rattle.tap_sound.proofs.Kit.{some_same, where_some}
-use Rattle.tap_sound.proofs.RingSteps.{RxLeaves, TxLeaves, rx_changes, rx_leaves, tx_changes, tx_leaves}
-use Rattle.tap_sound.proofs.ServedOn.{Course, OldGuests, OldRings, SameRings, rings_on, served_between, served_ended}
+use Rattle.tap_sound.proofs.RingSteps.{TxLeaves, tx_changes, tx_leaves}
+use Rattle.tap_sound.proofs.ServedOn.{Course, OldGuests, OldRings, SameRings}
 use Rattle.tap_sound.proofs.ServedOn.Course.{Free, On}
-use Rattle.tap_sound.proofs.Serving.{TurnLaws, hdr_more, rx_stands_on, tx_stands_on, unserved}
+use Rattle.tap_sound.proofs.Serving.{TurnLaws, hdr_more, tx_stands_on, unserved}
 use Rattle.tap_sound.proofs.Shapes.{Gives, RxWay, Shape, TxWay}
 use Rattle.tap_sound.proofs.Shapes.Shape.{Approves, BackApproves, BackDrives, BackPublishes, Calling, Giving, Learning, Owning, Publishing, Quiet, Reopening, RxTurning, Shutting, Sizing, Touching, Trims, TxTurning, Withdrawing}
-use Rattle.tap_sound.proofs.Taken.{IsStep, step_is, when_settled}
+use Rattle.tap_sound.proofs.Taken.{IsStep}
 use Rattle.tap_sound.proofs.Turned.{itself}
 use Rattle.tap_sound.proofs.Turns.{about, effect_vhosts}
 use Rattle.tap_sound.proofs.Writers.{course_is}
-use Rattle.tap_world.specs.declared.event.Heard.{Heard}
 use Rattle.tap_world.specs.Step.{step}
-use Rattle.tap_sound.proofs.Held.{shape_here}
-use Rattle.tap_sound.proofs.RingEvents.{alike_course, back_course, call_drives, effect_guests, last_serves, no_change, no_guests, none_rings, one_guest, one_rings, own_course, rx_course, rx_rings, rx_stays, this_one, turn_rings, tx_course, tx_only, tx_rings, tx_stays, free_none}
+use Rattle.tap_sound.proofs.RingEvents.{alike_course, back_course, effect_guests, last_serves, no_guests, none_rings, one_guest, one_rings, own_course, this_one, turn_rings, tx_only, free_none}
 use Rattle.scen_words.specs.declared.command.Command.TheVariants as command
-use Rattle.tap_world.specs.declared.event.EventKind.TheVariants as event
 use Rattle.tap_world.specs.StepBackend as back_steps
-use Rattle.tap_world.specs.StepTurns as rx_turns
 use Rattle.tap_world.specs.StepTransmits as tx_turns
 use Rattle.tap_steer.specs.declared.operation.Op.TheVariants as op
 use Rattle.tap_world.specs.declared.event.Found.TheVariants as found
 
 -- what such an event leaves
-record Left (s : Setup) (w : World) (x : Event) (u : World) (t : IsStep s w x u) : Type 0 where
+pub record Left (s : Setup) (w : World) (x : Event) (u : World) (t : IsStep s w x u) : Type 0 where
   pub course : Course w t.actor.doing t.effect.onward t.now.command
   pub rings : OldRings w t.between.vhosts
   pub guests : OldGuests w t.between.guests
 
 module _ (s : Setup) (w : World) (x : Event) (u : World) (t : IsStep s w x u) where
-  vhosts_on : (o : OnVhosts) → t.effect.vhosts ≡ o → t.between.vhosts ≡ vhosts_after o w.vhosts
+  pub vhosts_on : (o : OnVhosts) → t.effect.vhosts ≡ o → t.between.vhosts ≡ vhosts_after o w.vhosts
   vhosts_on o is = effect_vhosts t.effect x.actor t.actor x.command w t.between t.made ∙ ap (λ (q : OnVhosts). vhosts_after q w.vhosts) is
 
   no_rings : t.effect.vhosts ≡ NoVhost → OldRings w t.between.vhosts
@@ -76,10 +67,10 @@ module _ (s : Setup) (w : World) (x : Event) (u : World) (t : IsStep s w x u) wh
   guests_on : (o : OnGuests) → t.effect.guests ≡ o → guests_after x.actor x.command o w.guests ≡ Some t.between.guests
   guests_on o is = subst (λ (q : OnGuests). guests_after x.actor x.command q w.guests ≡ Some t.between.guests) is (effect_guests t.effect x.actor t.actor x.command w t.between t.made)
 
-  same_guests : t.effect.guests ≡ NoGuest → OldGuests w t.between.guests
+  pub same_guests : t.effect.guests ≡ NoGuest → OldGuests w t.between.guests
   same_guests is = no_guests w x.actor x.command t.between.guests (guests_on NoGuest is)
 
-  a_guest : (guest : ℕ) (m : Contents) (step : Option Kind) (g : Guest) → t.effect.guests ≡ OnGuest guest m step → at w.guests guest ≡ Some g → m.regions ≡ g.memory.regions → OldGuests w t.between.guests
+  pub a_guest : (guest : ℕ) (m : Contents) (step : Option Kind) (g : Guest) → t.effect.guests ≡ OnGuest guest m step → at w.guests guest ≡ Some g → m.regions ≡ g.memory.regions → OldGuests w t.between.guests
   a_guest guest m step g is at_ same = one_guest w x.actor x.command guest m step g t.between.guests at_ same (guests_on (OnGuest guest m step) is)
 
   -- an event of a command that doesn't serve
@@ -90,11 +81,11 @@ module _ (s : Setup) (w : World) (x : Event) (u : World) (t : IsStep s w x u) wh
     guests = same_guests (ap (λ (q : Effect). q.guests) (sym eq) ∙ none);
   }
 
-  on_vhosts : (r : Effect) → r ≡ t.effect → t.effect.vhosts ≡ r.vhosts
+  pub on_vhosts : (r : Effect) → r ≡ t.effect → t.effect.vhosts ≡ r.vhosts
   on_vhosts r is = ap (λ (q : Effect). q.vhosts) (sym is)
 
   -- the command serves its vhost's ring
-  mine_of : (vhost ring : ℕ) → serves t.actor.doing ≡ true → about vhost ring t.now.command ≡ true → Serves vhost ring t.actor
+  pub mine_of : (vhost ring : ℕ) → serves t.actor.doing ≡ true → about vhost ring t.now.command ≡ true → Serves vhost ring t.actor
   mine_of vhost ring sv ab = (sv, ap (is_about vhost ring) t.current_is ∙ ab)
 
   back_publishes : (d : Doing) (vhost ring : ℕ) (asked : Option ℕ) (r : Effect) → r ≡ t.effect → back_steps.publishes_back w d (command.Backend vhost ring asked) ≡ Some r
@@ -135,21 +126,8 @@ module _ (s : Setup) (w : World) (x : Event) (u : World) (t : IsStep s w x u) wh
       subst (λ (z : Vhost). TxStands k.made.0.turn z.settings.tx.queue) it
       (subst (TxStands k.made.0.turn) leaves.0 (tx_stands_on laws q k.v k.g.memory k.made k.step stands))))
 
--- the stage of a turn that this event doesn't change
-rx_stage : (s : Setup) (w : World) (x : Event) (u : World) (t : IsStep s w x u) → leaves_rings x.kind ≡ true → (file : ℕ) (q : RxTurn) (v : Vhost) → RxWay x.actor t.actor.doing file q v
-    → rx_changes q.stage ≡ false
-rx_stage s w x u t leaves file q v (inl is) =
-    rx_stays w file q.stage x.kind leaves (subst (λ (d : Doing). is_kind x.kind (next_kind w d t.now.command) ≡ true) is t.next)
-rx_stage s w x u t leaves file q v (inr is) = ap (λ (y : RxTurn). rx_changes y.stage) is.3
-
-tx_stage : (s : Setup) (w : World) (x : Event) (u : World) (t : IsStep s w x u) → leaves_rings x.kind ≡ true → (file : ℕ) (q : TxTurn) (told : List ChainText) (v : Vhost)
-    → TxWay t.actor.doing file q told v → tx_changes q.stage ≡ false
-tx_stage s w x u t leaves file q told v (inl is) =
-    tx_stays q.stage x.kind leaves (subst (λ (d : Doing). is_kind x.kind (next_kind w d t.now.command) ≡ true) is t.next)
-tx_stage s w x u t leaves file q told v (inr is) = ap (λ (y : TxTurn). tx_changes y.stage) is.4
-
 -- how a turn stands with its ring before the event
-rx_stands : TurnLaws → (s : Setup) (w : World) (x : Event) (u : World) (t : IsStep s w x u) → EachVhost w (TurnsAreHeld w) → EachVhost w (IsServed w)
+pub rx_stands : TurnLaws → (s : Setup) (w : World) (x : Event) (u : World) (t : IsStep s w x u) → EachVhost w (TurnsAreHeld w) → EachVhost w (IsServed w)
     → (vhost file : ℕ) (q : RxTurn) (v : Vhost) → t.now.command ≡ command.RxTurn vhost → at w.vhosts vhost ≡ Some v → RxWay x.actor t.actor.doing file q v → RxStands q v.settings.rx.queue
 rx_stands laws s w x u t turns served vhost file q v cis at_ (inl is) =
     subst (λ (d : Doing). StandsWith d v) is
@@ -160,7 +138,7 @@ rx_stands laws s w x u t turns served vhost file q v cis at_ (inr is) =
     (laws.rx_begin v.settings.mrg (hdr_of v.settings) v.settings.rx.queue (hdr_more v.settings)
     ((served vhost v at_).idle 0 (omega arith) (unserved w vhost 0 v (turns vhost v at_) (omega arith) (free_none 0 v is.2))))
 
-tx_stands : TurnLaws → (s : Setup) (w : World) (x : Event) (u : World) (t : IsStep s w x u) → EachVhost w (TurnsAreHeld w) → EachVhost w (IsServed w)
+pub tx_stands : TurnLaws → (s : Setup) (w : World) (x : Event) (u : World) (t : IsStep s w x u) → EachVhost w (TurnsAreHeld w) → EachVhost w (IsServed w)
     → (vhost file : ℕ) (q : TxTurn) (told : List ChainText) (v : Vhost) → t.now.command ≡ command.TxTurn vhost → at w.vhosts vhost ≡ Some v → TxWay t.actor.doing file q told v
     → TxStands q v.settings.tx.queue
 tx_stands laws s w x u t turns served vhost file q told v cis at_ (inl is) =
@@ -172,96 +150,66 @@ tx_stands laws s w x u t turns served vhost file q told v cis at_ (inr is) =
     (laws.tx_begin (hdr_of v.settings) is.3 v.settings.tx.queue
     ((served vhost v at_).idle 1 (omega arith) (unserved w vhost 1 v (turns vhost v at_) (omega arith) (free_none 1 v is.2))))
 
-rx_was : (me : ℕ) (d : Doing) (file : ℕ) (q : RxTurn) (v : Vhost) → RxWay me d file q v → ((serves d ≡ true) × (d ≡ d)) ⊎ ((serves d ≡ false) × (v.settings.rx.file ≡ Some file))
+pub rx_was : (me : ℕ) (d : Doing) (file : ℕ) (q : RxTurn) (v : Vhost) → RxWay me d file q v → ((serves d ≡ true) × (d ≡ d)) ⊎ ((serves d ≡ false) × (v.settings.rx.file ≡ Some file))
 rx_was me d file q v (inl is) = inl (ap serves is, refl)
 rx_was me d file q v (inr is) = inr (ap serves is.0, is.1)
 
-tx_was : (d : Doing) (file : ℕ) (q : TxTurn) (told : List ChainText) (v : Vhost) → TxWay d file q told v → ((serves d ≡ true) × (d ≡ d)) ⊎ ((serves d ≡ false) × (v.settings.tx.file ≡ Some file))
+pub tx_was : (d : Doing) (file : ℕ) (q : TxTurn) (told : List ChainText) (v : Vhost) → TxWay d file q told v → ((serves d ≡ true) × (d ≡ d)) ⊎ ((serves d ≡ false) × (v.settings.tx.file ≡ Some file))
 tx_was d file q told v (inl is) = inl (ap serves is, refl)
 tx_was d file q told v (inr is) = inr (ap serves is.0, is.1)
 
-left : TurnLaws → (s : Setup) (w : World) (x : Event) (u : World) (t : IsStep s w x u) → leaves_rings x.kind ≡ true → EachVhost w (TurnsAreHeld w) → EachVhost w (IsServed w)
-    → Shape s w x.actor t.actor.seen t.actor.doing t.now.command t.effect → Left s w x u t
-left laws s w x u t leaves turns served (Quiet o f g v wr alike) = record {
+-- an event on a ring
+abbrev pub IsOnRing : (s : Setup) (w : World) (me seen : ℕ) (d : Doing) (c : Command) (r : Effect) → Shape s w me seen d c r → Type 0
+IsOnRing s w me seen d c r (RxTurning vhost file q v g h made files f cis a b way step lv eq) = Unit {0}
+IsOnRing s w me seen d c r (TxTurning vhost file q told v g made cis a b way step eq) = Unit {0}
+IsOnRing s w me seen d c r (BackDrives refusal vhost ring file v g is cis a b free eq) = Unit {0}
+IsOnRing s w me seen d c r (Calling vhost v g y is of a b call may eq) = Unit {0}
+IsOnRing s w me seen d c r shape = ⊥
+
+pub left : TurnLaws → (s : Setup) (w : World) (x : Event) (u : World) (t : IsStep s w x u) → EachVhost w (TurnsAreHeld w) → EachVhost w (IsServed w)
+    → (shape : Shape s w x.actor t.actor.seen t.actor.doing t.now.command t.effect) → (IsOnRing s w x.actor t.actor.seen t.actor.doing t.now.command t.effect shape → ⊥) → Left s w x u t
+left laws s w x u t turns served (Quiet o f g v wr alike) nt = record {
   course = alike_course w t.actor.doing t.effect.onward t.now.command alike;
   rings = no_rings s w x u t v;
   guests = same_guests s w x u t g;
 }
-left laws s w x u t leaves turns served (Giving vhost file q told o f g v wr k) = record {
+left laws s w x u t turns served (Giving vhost file q told o f g v wr k) nt = record {
   course = giving s w x u t laws served vhost file q told k;
   rings = no_rings s w x u t v;
   guests = same_guests s w x u t g;
 }
-left laws s w x u t leaves turns served (Trims file n m k f is eq) = plain s w x u t _ eq (Free (ap serves is) refl) (no_rings s w x u t (on_vhosts s w x u t _ eq)) refl
-left laws s w x u t leaves turns served (Approves y is of free no_ eq) = plain s w x u t _ eq
+left laws s w x u t turns served (Trims file n m k f is eq) nt = plain s w x u t _ eq (Free (ap serves is) refl) (no_rings s w x u t (on_vhosts s w x u t _ eq)) refl
+left laws s w x u t turns served (Approves y is of free no_ eq) nt = plain s w x u t _ eq
     (Free (ap serves is) (course_is (λ (q : Doing). serves q ≡ false) (table s w) y (λ file. refl) (λ file. refl) (λ file k. refl) refl)) (no_rings s w x u t (on_vhosts s w x u t _ eq)) refl
-left laws s w x u t leaves turns served (BackApproves vhost ring file v is cis at_ free turn no_ eq) =
+left laws s w x u t turns served (BackApproves vhost ring file v is cis at_ free turn no_ eq) nt =
     plain s w x u t _ eq (Free (ap serves is) refl) (go (is_ring ring) (on_vhosts s w x u t _ eq)) refl
   where
     go : (b : Bool) → t.effect.vhosts ≡ OnVhost vhost (if b then with_turn ring (Some x.actor) v else v) → OldRings w t.between.vhosts
     go true same = a_ring s w x u t vhost v (with_turn ring (Some x.actor) v) same at_ (turn_rings ring (Some x.actor) v)
     go false same = a_ring s w x u t vhost v v same at_ (refl, refl, refl)
-left laws s w x u t leaves turns served (Reopening file f is at_ eq) = plain s w x u t _ eq (Free (ap serves is) refl) (no_rings s w x u t (on_vhosts s w x u t _ eq)) refl
-left laws s w x u t leaves turns served (Shutting file version f is at_ eq) = plain s w x u t _ eq (Free (ap serves is) refl) (no_rings s w x u t (on_vhosts s w x u t _ eq)) refl
-left laws s w x u t leaves turns served (Sizing file capacity f is at_ eq) = plain s w x u t _ eq (Free (ap serves is) refl) (no_rings s w x u t (on_vhosts s w x u t _ eq)) refl
-left laws s w x u t leaves turns served (Publishing y n ans last of no_ eq) =
+left laws s w x u t turns served (Reopening file f is at_ eq) nt = plain s w x u t _ eq (Free (ap serves is) refl) (no_rings s w x u t (on_vhosts s w x u t _ eq)) refl
+left laws s w x u t turns served (Shutting file version f is at_ eq) nt = plain s w x u t _ eq (Free (ap serves is) refl) (no_rings s w x u t (on_vhosts s w x u t _ eq)) refl
+left laws s w x u t turns served (Sizing file capacity f is at_ eq) nt = plain s w x u t _ eq (Free (ap serves is) refl) (no_rings s w x u t (on_vhosts s w x u t _ eq)) refl
+left laws s w x u t turns served (Publishing y n ans last of no_ eq) nt =
     plain s w x u t _ eq (Free (last_serves t.actor.doing last) refl) (no_rings s w x u t (on_vhosts s w x u t _ eq)) refl
-left laws s w x u t leaves turns served (Withdrawing y file is of no_ eq) = plain s w x u t _ eq (Free (ap serves is) refl) (no_rings s w x u t (on_vhosts s w x u t _ eq)) refl
-left laws s w x u t leaves turns served (Learning file hash o f g v wr alike) = record {
+left laws s w x u t turns served (Withdrawing y file is of no_ eq) nt = plain s w x u t _ eq (Free (ap serves is) refl) (no_rings s w x u t (on_vhosts s w x u t _ eq)) refl
+left laws s w x u t turns served (Learning file hash o f g v wr alike) nt = record {
   course = alike_course w t.actor.doing t.effect.onward t.now.command alike;
   rings = no_rings s w x u t v;
   guests = same_guests s w x u t g;
 }
-left laws s w x u t leaves turns served (BackPublishes vhost ring asked cis eq) =
+left laws s w x u t turns served (BackPublishes vhost ring asked cis eq) nt =
     let b = back_publishes s w x u t t.actor.doing vhost ring asked t.effect refl eq in
     plain s w x u t t.effect refl (back_course w t.actor.doing vhost ring asked t.effect t.now.command eq) b.0 b.1
-left laws s w x u t leaves turns served (Owning vhost ring asked cis eq) =
+left laws s w x u t turns served (Owning vhost ring asked cis eq) nt =
     let b = owns s w x u t t.actor.doing vhost ring asked eq in
     plain s w x u t t.effect refl (own_course w t.actor.seen t.actor.doing vhost ring asked t.effect t.now.command eq) b.0 b.1
-left laws s w x u t leaves turns served (BackDrives refusal vhost ring file v g is cis a b free eq) =
-    absurd (no_change x.kind event.Drive leaves refl (subst (λ (d : Doing). is_kind x.kind (next_kind w d t.now.command) ≡ true) is t.next))
-left laws s w x u t leaves turns served (Calling vhost v g y is of a b call may eq) =
-    absurd (no_change x.kind event.Drive leaves refl
-    (subst (λ (k : EventKind). is_kind x.kind (Some k) ≡ true) (call_drives w t.now.command vhost of)
-    (subst (λ (d : Doing). is_kind x.kind (next_kind w d t.now.command) ≡ true) is t.next)))
-left laws s w x u t leaves turns served (Touching guest g m step v y at_ same is o f gs vs wr on) = record {
+left laws s w x u t turns served (BackDrives refusal vhost ring file v g is cis a b free eq) nt = absurd (nt tt)
+left laws s w x u t turns served (Calling vhost v g y is of a b call may eq) nt = absurd (nt tt)
+left laws s w x u t turns served (Touching guest g m step v y at_ same is o f gs vs wr on) nt = record {
   course = subst (λ (q : Onward). Course w t.actor.doing q t.now.command) (sym on) (Free (ap serves is) refl);
   rings = no_rings s w x u t vs;
   guests = a_guest s w x u t guest m step g gs at_ same;
 }
-left laws s w x u t leaves turns served (RxTurning vhost file q v g h made files f cis a b way step lv eq) =
-    let stays = where_some (RxLeaves (rx_turns.rx_state q v g.memory)) _ made (rx_leaves h (rx_turns.rx_state q v g.memory) (rx_stage s w x u t leaves file q v way)) step in
-    let stands = rx_stands_on laws q v h g.memory made step (rx_stands laws s w x u t turns served vhost file q v cis a way) in
-    record {
-      course = subst (λ (y : Effect). Course w t.actor.doing y.onward t.now.command) eq (subst (λ (c : Command). Course w t.actor.doing (rx_turns.rx_onward t.actor.seen file made.0.turn f (rx_turns.rx_over made.0.turn.stage)) c) (sym cis)
-          (rx_course w t.actor.seen vhost file t.actor.doing v made.0.turn made.0.queue f a stays.0 (rx_was x.actor t.actor.doing file q v way) stands (rx_turns.rx_over made.0.turn.stage) refl));
-      rings = a_ring s w x u t vhost v _ (on_vhosts s w x u t _ eq) a
-          (rx_rings (if is_some (rx_turns.rx_over made.0.turn.stage) then None else Some x.actor) made.0.queue v stays.0);
-      guests = a_guest s w x u t v.guest made.0.memory _ g (ap (λ (y : Effect). y.guests) (sym eq)) b stays.1;
-    }
-left laws s w x u t leaves turns served (TxTurning vhost file q told v g made cis a b way step eq) =
-    let stays = where_some (TxLeaves (tx_turns.tx_state q v g.memory)) _ made (tx_leaves (tx_turns.tx_state q v g.memory) (tx_stage s w x u t leaves file q told v way)) step in
-    let after : List ChainText = tx_turns.chains_after made.1 made.0.turn.held told in
-    let fd : Found = rx_turns.found_by (rx_turns.kind_of vhost 1 made.1) (rx_turns.held_name made.0.turn.held) in
-    let stands = tx_stands_on laws q v g.memory made step (tx_stands laws s w x u t turns served vhost file q told v cis a way) in
-    record {
-      course = subst (λ (y : Effect). Course w t.actor.doing y.onward t.now.command) eq (subst (λ (c : Command). Course w t.actor.doing (tx_turns.tx_onward t.actor.seen file made.0.turn after fd (tx_turns.tx_over made.0.turn.stage)) c) (sym cis)
-          (tx_course w t.actor.seen vhost file t.actor.doing v made.0.turn after made.0.queue fd a stays.0 (tx_was t.actor.doing file q told v way) stands (tx_turns.tx_over made.0.turn.stage) refl));
-      rings = a_ring s w x u t vhost v _ (on_vhosts s w x u t _ eq) a
-          (tx_rings (if is_some (tx_turns.tx_over made.0.turn.stage) then None else Some x.actor) made.0.queue v stays.0);
-      guests = a_guest s w x u t v.guest made.0.memory _ g (ap (λ (y : Effect). y.guests) (sym eq)) b stays.1;
-    }
-
-pub rings_are_kept : TurnLaws → (s : Setup) (w : World) (x : Event) (u : World × Heard) → step s w x ≡ Some u → leaves_rings x.kind ≡ true
-    → EachActor w (λ actor a. CanBe a) → EachVhost w (TurnsAreHeld w) → HaveRings w → HaveRings u.0
-rings_are_kept laws s w x u e leaves stand turns h =
-    let t = step_is s w x u e in
-    let l = left laws s w x u.0 t leaves turns h.served (shape_here s w x u.0 t stand) in
-    let between : HaveRings t.between = record {
-      rings = rings_on w t.between l.rings l.guests h.rings;
-      served = served_between s w x u.0 t l.course l.rings h.served;
-    } in
-    subst HaveRings t.is (when_settled HaveRings t.between between (λ f end. record {
-      rings = between.rings;
-      served = served_ended t.between f end between.served;
-    }))
+left laws s w x u t turns served (RxTurning vhost file q v g h made files f cis a b way step lv eq) nt = absurd (nt tt)
+left laws s w x u t turns served (TxTurning vhost file q told v g made cis a b way step eq) nt = absurd (nt tt)

@@ -53,7 +53,7 @@ stands_still v new same (Given file t told f) h = subst (λ (r : RingSettings). 
 stands_still v new same (Teaches file t told f) h = subst (λ (r : RingSettings). TxStands t r.queue) (sym same.2) h
 stands_still v new same d h = tt
 
-ring_on : (g new : Guest) (r : RingSettings) → new.memory.regions ≡ g.memory.regions → IsRing g r → IsRing new r
+pub ring_on : (g new : Guest) (r : RingSettings) → new.memory.regions ≡ g.memory.regions → IsRing g r → IsRing new r
 ring_on g new r same h = record {
   lists = h.lists;
   size = h.size;
@@ -101,15 +101,15 @@ serves_after : (o : Onward) (a : Actor) → serves (actor_after o a).doing ≡ s
 serves_after o a = ap serves (is_doing_after o a)
 
 module _ (s : Setup) (w : World) (x : Event) (u : World) (t : IsStep s w x u) where
-  abbrev A : Actor
+  abbrev pub A : Actor
   A = actor_after t.effect.onward t.actor
 
   -- who is there after the event
-  actor_of : (i : ℕ) (b : Actor) → slice_get t.between.actors i ≡ Some b → ((x.actor ≡ i) × (A ≡ b)) ⊎ ((x.actor ≢ i) × (slice_get w.actors i ≡ Some b))
+  pub actor_of : (i : ℕ) (b : Actor) → slice_get t.between.actors i ≡ Some b → ((x.actor ≡ i) × (A ≡ b)) ⊎ ((x.actor ≢ i) × (slice_get w.actors i ≡ Some b))
   actor_of i b at_ = with_nth_inv x.actor A w.actors i b
       (ap (λ (q : List Actor). slice_get q i) (sym (effect_actors t.effect x.actor t.actor x.command w t.between t.made)) ∙ at_)
 
-  other_of : (i : ℕ) (b : Actor) → x.actor ≢ i → slice_get w.actors i ≡ Some b → slice_get t.between.actors i ≡ Some b
+  pub other_of : (i : ℕ) (b : Actor) → x.actor ≢ i → slice_get w.actors i ≡ Some b → slice_get t.between.actors i ≡ Some b
   other_of i b no_ at_ =
       ap (λ (q : List Actor). slice_get q i) (effect_actors t.effect x.actor t.actor x.command w t.between t.made) ∙ other_still x.actor i A w.actors no_ ∙ at_
 
@@ -117,7 +117,7 @@ module _ (s : Setup) (w : World) (x : Event) (u : World) (t : IsStep s w x u) wh
   Nobody q vhost ring = (actor : ℕ) (a : Actor) → slice_get q.actors actor ≡ Some a → Serves vhost ring a → ⊥
 
   -- where nobody serves a ring after it, nobody did before but the command that acts
-  nobody : (vhost ring : ℕ) → (Serves vhost ring t.actor → ⊥) → Nobody t.between vhost ring → Nobody w vhost ring
+  pub nobody : (vhost ring : ℕ) → (Serves vhost ring t.actor → ⊥) → Nobody t.between vhost ring → Nobody w vhost ring
   nobody vhost ring mine none i a at_ sv = ⊎_elim
       (λ same. mine (subst (Serves vhost ring) (some_same a t.actor (sym (subst (λ (k : ℕ). slice_get w.actors k ≡ Some a) (sym same.1) at_) ∙ t.found)) sv))
       (λ other. none i a (other_of i a other.1 at_) sv)

@@ -41,7 +41,7 @@ pub data View (w v : World) (d e : Doing) (c : Command) : Type 0 where
 of_writer : (w : World) (o : Option ℕ) → w.writer ≡ o → writer_of w ≡ (o >>= (λ (n : ℕ). slice_get w.actors n))
 of_writer w o is = ap (λ (q : Option ℕ). q >>= (λ (n : ℕ). slice_get w.actors n)) is
 
-is_none_held : (w : World) → w.writer ≡ None → Is w Begun None
+pub is_none_held : (w : World) → w.writer ≡ None → Is w Begun None
 is_none_held w is = (ap doing_of (of_writer w None is), ap command_of (of_writer w None is))
 
 is_held_by : (w : World) (me : ℕ) (a : Actor) (d : Doing) (c : Option Command) → w.writer ≡ Some me → slice_get w.actors me ≡ Some a → a.doing ≡ d

@@ -10,4 +10,5 @@ pub mod Tabled
 pub mod Fresh
 pub mod Served
 pub mod Soundness
+pub mod SoundRuns
 pub mod Worlds

@@ -17,6 +17,7 @@ ghost use Rattle.tap_sound.specs.Names.{NamesAreKept, NamesStandAfterRuns, Names
 ghost use Rattle.tap_sound.specs.Reached.{PhaseIsKept, ReachedIsKept, RunIsKept};
 ghost use Rattle.tap_sound.specs.Room.{RoomIsAlwaysKept};
 ghost use Rattle.tap_sound.specs.Served.{RingsAreKept};
+ghost use Rattle.tap_sound.specs.SoundRuns.{ReachedIsSound, RunIsSound};
 ghost use Rattle.tap_sound.specs.Soundness.{SoundnessIsKept};
 ghost use Rattle.tap_sound.specs.Tabled.{TableIsKept};
 ghost use Rattle.tap_sound.specs.Used.{UsedIsCounted};
@@ -85,13 +86,14 @@ pub fn table_is_kept()
     ensures { TableIsKept }
 {}
 
-/// Every event but four keeps that the rings of vhosts are in order, and stand with the turns that serve them: a call on a
-/// vhost, and the events of a turn that fetch, copy and publish.
+/// Every event keeps that the rings of vhosts are in order, and stand with the turns that serve them.
 pub fn rings_are_kept()
     ensures { RingsAreKept }
 {
     vring_turns::receive_standing();
     vring_turns::transmit_standing();
+    vhost_dev::rings_stay_good();
+    vhost_dev::lists_stay_in_order();
 }
 
 /// So these parts of soundness hold in each world that a run ends in, and in each world on the way.
@@ -126,12 +128,25 @@ pub fn names_are_new()
     ensures { NamesAreNew }
 {}
 
-/// So each of these events keeps a sound world sound, in all ten parts.
+/// So every event keeps a sound world sound, in all ten parts.
 pub fn soundness_is_kept()
     ensures { SoundnessIsKept }
 {
     vring_turns::receive_standing();
     vring_turns::transmit_standing();
+    vhost_dev::rings_stay_good();
+    vhost_dev::lists_stay_in_order();
+}
+
+/// So each world that a run reaches is sound, and the one that it ends in.
+pub fn runs_are_sound()
+    ensures reached { ReachedIsSound }
+    ensures ended { RunIsSound }
+{
+    vring_turns::receive_standing();
+    vring_turns::transmit_standing();
+    vhost_dev::rings_stay_good();
+    vhost_dev::lists_stay_in_order();
 }
 
 /// Every event keeps all parts of what is sound but what rings are, and they hold in each world that a run reaches.

@@ -1,0 +1,133 @@
+-- A call on a vhost or a driver leaves the regions of its guest's memory, and its rings in order.
+use Rattle.std.proofs.Common.{◌≡◌, ℕ, ◌+◌, List, [], ◌∷◌, length, Bool, true, false, Option, Some, None, refl, sym, ap, ◌∙◌, subst}
+use Rattle.std.specs.Prelude.{if◌then◌else◌, ◌&&◌, is_none}
+use Rattle.std.specs.Option.{option_map_or}
+use Rattle.guest_mem.specs.Memory.{Contents}
+use Rattle.vring_split.specs.declared.layout.Layout.{Layout}
+use Rattle.vhost_dev.specs.declared.error.VhostErr.{VhostErr}
+use Rattle.vhost_dev.specs.Settings.{Settings, ring_at}
+use Rattle.vhost_dev.specs.Laws.{BackedAreGood, BackedStayGood, Call, HaveSizes, ReadyIsGood, SizesStay, after, refusal_of, made_by}
+use Rattle.vhost_dev.specs.Lists.{CallsKeepOrder, HaveOrder, IsTimely}
+use Rattle.vhost_dev.specs.Calls.{chosen}
+use Rattle.vring_drive.specs.declared.error.DriveErr.{DriveErr}
+use Rattle.vring_drive.specs.declared.error.PostErr.{PostErr}
+use Rattle.vring_drive.specs.Area.{drive_refusal}
+use Rattle.vring_drive.specs.Area as area
+use Rattle.vring_drive.specs.Books.{Books, first_books}
+use Rattle.vring_drive.specs.Harvests.{harvested, harvested_in}
+use Rattle.vring_drive.specs.Posts.{filled, full_pieces, linked, offered, post_in_refusal, post_out_refusal, posted_in, posted_out}
+use Rattle.scen_words.specs.declared.command.Command.{Command}
+use Rattle.scen_words.specs.declared.command.Command.TheVariants as command
+use Rattle.tap_trace.specs.declared.answer.Answer.TheVariants as answer
+use Rattle.tap_trace.specs.declared.kind.Kind.{Kind}
+use Rattle.tap_trace.specs.declared.kind.Kind.TheVariants as kind
+use Rattle.tap_world.specs.Guests.{Guest, Vhost, driver_of}
+use Rattle.tap_world.specs.SoundRings.{IsRing}
+use Rattle.tap_world.specs.StepControl as control
+use Rattle.tap_sound.proofs.Kit.{some_same}
+
+-- ---- memory
+
+linked_regions : (l : Layout) (writable : Bool) (ds lens : List ℕ) (m : Contents) → (linked l writable ds lens m).regions ≡ m.regions
+unfolding linked
+linked_regions l writable [] lens m = refl
+linked_regions l writable (d ∷ ds) lens m = linked_regions l writable ds _ _
+
+filled_regions : (l : Layout) (ds bytes : List ℕ) (m : Contents) → (filled l ds bytes m).regions ≡ m.regions
+unfolding filled
+filled_regions l [] bytes m = refl
+filled_regions l (d ∷ ds) bytes m = filled_regions l ds _ _
+
+area_regions : (addr number : ℕ) (m : Contents) → (area.with_field addr number m).regions ≡ m.regions
+unfolding area.with_field
+area_regions addr number m = refl
+
+offered_regions : (l : Layout) (place head : ℕ) (m : Contents) → (offered l place head m).regions ≡ m.regions
+unfolding offered
+offered_regions l place head m = area_regions _ _ _ ∙ area_regions _ _ m
+
+abbrev SameRegions : Contents → control.Call → Type 0
+SameRegions m x = x.memory.regions ≡ m.regions
+
+books_regions : (k : Kind) (v : Vhost) (m : Contents) (o : Option Books) (call : Books → control.Call) → ((b : Books) → SameRegions m (call b)) → SameRegions m (control.with_books k v m o call)
+books_regions k v m None call h = refl
+books_regions k v m (Some b) call h = h b
+
+posts_regions : (vhost ring : ℕ) (o : Option PostErr) (need : ℕ) (n : Contents) (b : Books) (v : Vhost) (m : Contents) → n.regions ≡ m.regions → SameRegions m (control.posts vhost ring o need n b v m)
+posts_regions vhost ring None need n b v m h = h
+posts_regions vhost ring (Some e) need n b v m h = refl
+
+posted_in_regions : (b : Books) (lens : List ℕ) (m : Contents) → (posted_in b lens m).regions ≡ m.regions
+posted_in_regions b lens m = offered_regions _ _ _ _ ∙ linked_regions _ _ _ _ m
+
+posted_out_regions : (b : Books) (bytes : List ℕ) (m : Contents) → (posted_out b bytes m).regions ≡ m.regions
+posted_out_regions b bytes m = offered_regions _ _ _ _ ∙ linked_regions _ _ _ _ _ ∙ filled_regions _ _ _ m
+
+harvested_regions : (m : Contents) (b : Books) → (harvested_in m b).regions ≡ m.regions
+harvested_regions m b = go (is_none (harvested m b).stray && b.event) _ _
+  where
+    go : (t : Bool) (addr number : ℕ) → (if t then area.with_field addr number m else m).regions ≡ m.regions
+    go true addr number = area_regions addr number m
+    go false addr number = refl
+
+pub call_regions : (c : Command) (v : Vhost) (m : Contents) (x : control.Call) → control.call_of c v m ≡ Some x → SameRegions m x
+call_regions (command.Features vhost bits) v m x e = ap (λ (q : control.Call). q.memory.regions) (sym (some_same _ x e))
+call_regions (command.VNum vhost ring n) v m x e = ap (λ (q : control.Call). q.memory.regions) (sym (some_same _ x e))
+call_regions (command.VBase vhost ring n) v m x e = ap (λ (q : control.Call). q.memory.regions) (sym (some_same _ x e))
+call_regions (command.VAddr vhost ring desc avail used) v m x e = ap (λ (q : control.Call). q.memory.regions) (sym (some_same _ x e))
+call_regions (command.GetBase vhost ring) v m x e = ap (λ (q : control.Call). q.memory.regions) (sym (some_same _ x e))
+call_regions (command.DriveAt vhost ring addr) v m x e = subst (SameRegions m) (some_same _ x e) (go (drive_refusal m addr (ring_at ring v.settings).queue.layout.num))
+  where
+    go : (o : Option DriveErr) → SameRegions m (option_map_or (λ r. control.undriven (kind.Drive vhost ring) v m (answer.Drive (control.drive_told r))) o
+        (control.driven ring (kind.Drive vhost ring) v
+        (first_books addr (ring_at ring v.settings).queue.layout.num (ring_at ring v.settings).queue.layout.event) m answer.Done))
+    go None = refl
+    go (Some r) = refl
+call_regions (command.PostIn vhost ring lens) v m x e = subst (SameRegions m) (some_same _ x e)
+    (books_regions (kind.Post vhost ring) v m (driver_of ring v) _ (λ b. posts_regions vhost ring (post_in_refusal lens b) (length lens) (posted_in b lens m) b v m (posted_in_regions b lens m)))
+call_regions (command.PostOut vhost ring bytes) v m x e = subst (SameRegions m) (some_same _ x e)
+    (books_regions (kind.Post vhost ring) v m (driver_of ring v) _
+    (λ b. posts_regions vhost ring (post_out_refusal (length bytes) b) (full_pieces (length bytes) + 1) (posted_out b bytes m) b v m (posted_out_regions b bytes m)))
+call_regions (command.Harvest vhost ring) v m x e = subst (SameRegions m) (some_same _ x e)
+    (books_regions (kind.Harvest vhost ring) v m (driver_of ring v) _ (λ b. harvested_regions m b))
+call_regions c v m x e = absurd (cc (e))
+
+-- ---- settings
+
+pub record DevLaws : Type 0 where
+  pub sizes : SizesStay
+  pub ready : ReadyIsGood
+  pub good : BackedStayGood
+  pub order : CallsKeepOrder
+
+abbrev pub BothRings : Guest → Settings → Type 0
+BothRings g s = IsRing g s.rx × IsRing g s.tx
+
+of_both : (g : Guest) (s : Settings) → BothRings g s → HaveOrder s × HaveSizes s × BackedAreGood g.memory s
+of_both g s h = (order, sizes, good)
+  where
+    order : HaveOrder s
+    order true = h.0.lists
+    order false = h.1.lists
+
+    sizes : HaveSizes s
+    sizes true = h.0.size
+    sizes false = h.1.size
+
+    good : BackedAreGood g.memory s
+    good true k = h.0.good k
+    good false k = h.1.good k
+
+to_both : (g : Guest) (s : Settings) → HaveOrder s → HaveSizes s → BackedAreGood g.memory s → BothRings g s
+to_both g s order sizes good = (
+  record { lists = order true; size = sizes true; good = λ k. good true k },
+  record { lists = order false; size = sizes false; good = λ k. good false k },
+)
+
+-- a call that isn't refused and no backend
+pub call_keeps : DevLaws → (g : Guest) (s t : Settings) (x : Call) → IsTimely s x → refusal_of g.memory s x ≡ None → t ≡ made_by g.memory s x → BothRings g s → BothRings g t
+call_keeps laws g s t x timely lawful is h =
+    let b = of_both g s h in
+    let same : after g.memory s x ≡ t = ap (λ (o : Option VhostErr). chosen o s (made_by g.memory s x)) lawful ∙ sym is in
+    subst (BothRings g) same
+    (to_both g (after g.memory s x) (laws.order g.memory s x timely b.0) (laws.sizes g.memory s x b.1) (laws.good g.memory s x b.1 b.2))
