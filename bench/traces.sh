@@ -3,9 +3,10 @@
 # file (frames of 60 bytes, a read for every send, up to 500 frames waiting in a ring of 1,024), and beside each
 # `tapsim check` on the same scenario, so that what is left is the run, its trace and its report. It prints the
 # processor time, the megabytes of output a second and the peak memory; then 200,000 against 20,000 (at most 12 times),
-# and what is left against sha256sum of the output. Then trace_bench reads the output of the larger run: its processor
-# time against sha256sum (at most 2 times), and its peak memory against the bytes that it reads (at most 2.5 times). It
-# times the programs themselves, which are built first where that is needed. It needs GNU time as /usr/bin/time.
+# and what is left against sha256sum of the output. Then trace_bench reads the output of the larger run, and a trace of
+# 400 MB: its processor time against sha256sum (at most 2 times), and its peak memory against the bytes that it reads (at
+# most 2.5 times). It times the programs themselves, which are built first where that is needed. It needs GNU time as
+# /usr/bin/time.
 set -eu
 top=$(CDPATH= cd -- "$(dirname -- "$0")/.." && pwd)
 program=$top/crates/tapsim/out/tapsim
@@ -67,12 +68,39 @@ awk 'FNR == 1 { t[++n] = $1 > 0 ? $1 : 0.001 }
 
 reader=$top/crates/trace_bench/out/trace_bench
 (cd "$top/crates/trace_bench" && rt run <stdin >"$scratch/built" 2>&1) || { tail -n 20 "$scratch/built"; exit 1; }
-for run in 1 2 3; do
-    /usr/bin/time -o "$scratch/run" -f '%U %S %M' "$reader" <"$scratch/many.out" >"$scratch/read"
-    awk '{ print $1 + $2, $3 }' "$scratch/run"
-done | sort -n | head -1 | awk -v size="$(wc -c <"$scratch/many.out")" -v sum="$(cat "$scratch/sum")" -v told="$(cat "$scratch/read")" '{
-    seconds = $1 > 0 ? $1 : 0.001
-    if (sum <= 0) sum = 0.001
-    printf "read (%s): %.3f s, %.1f MB/s, peak %.1f MiB; %.1f times sha256sum (at most 2), %.2f times the text (at most 2.5)\n",
-        told, $1, size / 1e6 / seconds, $2 / 1024, seconds / sum, $2 * 1024 / size
-}'
+
+# fastest WORDS ..: three times runs the words on standard input scratch/read, and prints seconds and kilobytes of the
+# fastest run; what the last one prints stays in scratch/told.
+fastest() {
+    for run in 1 2 3; do
+        /usr/bin/time -o "$scratch/run" -f '%U %S %M' "$@" <"$scratch/read" >"$scratch/told"
+        awk '{ print $1 + $2, $3 }' "$scratch/run"
+    done | sort -n | head -1
+}
+
+# reading NAME: times the reading of scratch/read.
+reading() {
+    fastest sha256sum >"$scratch/sum"
+    fastest "$reader" >"$scratch/reading"
+    awk -v name="$1" -v size="$(wc -c <"$scratch/read")" -v told="$(cat "$scratch/told")" '
+        FNR == 1 { n++; t[n] = $1 > 0 ? $1 : 0.001; kb[n] = $2 }
+        END {
+            printf "read %s (%s): %.3f s, %.1f MB/s, peak %.1f MiB; ", name, told, t[2], size / 1e6 / t[2], kb[2] / 1024
+            printf "%.1f times sha256sum (at most 2), ", t[2] / t[1]
+            printf "%.2f times the text (at most 2.5)\n", kb[2] * 1024 / size
+        }' "$scratch/sum" "$scratch/reading"
+}
+
+# The trace of the larger run, and one of 400 MB: sends and reads of frames of 60 bytes.
+cp "$scratch/many.out" "$scratch/read"
+reading many
+awk 'BEGIN {
+    print "taptrace 1"; print "phase 0 1"
+    bytes = sprintf("%0120d", 0)
+    for (n = 0; n < 4200000; n += 2) {
+        print "ans 0 " n " 1 placed 0 " n / 2 " 1 60"
+        print "ans 0 " n + 1 " 1 read 0." n ".0 " n / 2 " " bytes
+    }
+    print "end"
+}' >"$scratch/read"
+reading large
