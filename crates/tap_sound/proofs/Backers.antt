@@ -189,9 +189,6 @@ features_files : (bits : ℕ) (s : Settings) (q : Side) → (on_side q (with_fea
 features_files bits s Rx = refl
 features_files bits s Tx = refl
 
-ring_same : (s : Settings) (b : Bool) → (if b then s.rx else s.tx).file ≡ (if b then s.rx else s.tx).file
-ring_same s b = refl
-
 pub call_files : (c : Command) (v : Vhost) (m : Contents) (x : Call) → Called c v m x → SameFiles v x.vhost
 call_files c v m x (Untouched s g a b) q = ap (λ (k : Settings). (on_side q k).file) s
 call_files c v m x (Features vhost bits is no_ same) q = ap (λ (k : Vhost). (on_side q k.settings).file) same ∙ features_files bits v.settings q

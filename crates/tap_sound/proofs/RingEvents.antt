@@ -3,12 +3,11 @@ use Rattle.std.proofs.Common.{◌≡◌, ◌≢◌, ◌⊎◌, ℕ, zero, suc, L
 use Rattle.std.specs.Prelude.{if◌then◌else◌, ◌==◌, is_none}
 use Rattle.std.proofs.lemmas.Bool.Decides.{eqb_tells}
 use Rattle.guest_mem.specs.Memory.{Contents}
-use Rattle.vhost_queue.specs.Queue.{Queue}
 use Rattle.scen_words.specs.declared.command.Command.{Command}
 use Rattle.scen_words.specs.declared.command.Command.TheVariants as command
 use Rattle.tap_trace.specs.declared.kind.Kind.{Kind}
 use Rattle.tap_world.specs.ByNumber.{at, with_at}
-use Rattle.tap_world.specs.Guests.{Guest, Vhost, is_free, turn_of, with_queue, with_turn}
+use Rattle.tap_world.specs.Guests.{Guest, Vhost, is_free, turn_of, with_turn}
 use Rattle.tap_world.specs.World.{Actor, Doing, World}
 use Rattle.tap_world.specs.World.Doing.{Backed, Changes, Disowned, Opened, Owns, Released, Shrinks, Unbacked}
 use Rattle.tap_world.specs.Effect.{Effect, Onward, files_after, guests_after, with_effect}
@@ -66,10 +65,7 @@ own_course w seen (Owns file version) vhost ring asked r c e = subst (λ (q : Ef
 own_course w seen (Unbacked file) vhost ring asked r c e = subst (λ (q : Effect). Course w (Unbacked file) q.onward c) (some_same _ r e) (Free refl refl)
 own_course w seen d vhost ring asked r c e = absurd (cc (e))
 
--- a turn is about its ring alone
-rx_only : (vhost n ring : ℕ) → about n ring (command.RxTurn vhost) ≡ true → (vhost ≡ n) × (0 ≡ ring)
-rx_only vhost n ring e = let b = both (vhost == n) (0 == ring) e in (equal vhost n b.0, equal 0 ring b.1)
-
+-- a transmit turn is about its ring alone
 pub tx_only : (vhost n ring : ℕ) → about n ring (command.TxTurn vhost) ≡ true → (vhost ≡ n) × (1 ≡ ring)
 tx_only vhost n ring e = let b = both (vhost == n) (1 == ring) e in (equal vhost n b.0, equal 1 ring b.1)
 
@@ -125,12 +121,6 @@ turn_rings ring o v = go (ring == 0)
     go : (b : Bool) → SameRings v (if b then record v { rx_turn = o } else record v { tx_turn = o })
     go true = (refl, refl, refl)
     go false = (refl, refl, refl)
-
-pub rx_rings : (o : Option ℕ) (q : Queue) (v : Vhost) → q ≡ v.settings.rx.queue → SameRings v (with_turn 0 o (with_queue 0 q v))
-rx_rings o q v same = (refl, ap (λ (y : Queue). record v.settings.rx { queue = y }) same, refl)
-
-pub tx_rings : (o : Option ℕ) (q : Queue) (v : Vhost) → q ≡ v.settings.tx.queue → SameRings v (with_turn 1 o (with_queue 1 q v))
-tx_rings o q v same = (refl, refl, ap (λ (y : Queue). record v.settings.tx { queue = y }) same)
 
 -- a turn that is free
 pub free_none : (ring : ℕ) (v : Vhost) → is_free ring v ≡ true → turn_of ring v ≡ None

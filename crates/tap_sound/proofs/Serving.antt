@@ -1,7 +1,6 @@
 -- Rings and the turns that serve them, after the events that leave rings.
-use Rattle.std.proofs.Common.{◌≡◌, ℕ, ◌<◌, List, [], ◌∷◌, length, Bool, true, false, Some, None, ⊎_elim, refl, sym, ap, ◌∙◌, subst, true≢false, arith}
-use Rattle.std.specs.Prelude.{if◌then◌else◌, ◌==◌, ◌&&◌, ◌||◌, slice_get}
-use Rattle.std.proofs.lemmas.Bool.Decides.{eqb_tells}
+use Rattle.std.proofs.Common.{◌≡◌, ℕ, ◌<◌, List, [], ◌∷◌, length, Bool, true, false, Some, None, refl, sym, ap, ◌∙◌, subst, true≢false, arith}
+use Rattle.std.specs.Prelude.{if◌then◌else◌, ◌&&◌, ◌||◌, slice_get}
 use Rattle.guest_mem.specs.Memory.{Contents}
 use Rattle.vhost_queue.specs.Positions.{IsIdle}
 use Rattle.vhost_queue.specs.Queue.{Queue}
@@ -16,17 +15,14 @@ use Rattle.vring_turns.specs.TxTurn.{TxState, TxTurn, tx_step}
 use Rattle.vring_turns.specs.Standing.{ReceiveTurnsBegin, ReceiveTurnsStand, RxStands, RxStandsAt, TransmitTurnsBegin, TransmitTurnsStand, TxStands, TxStandsAt}
 use Rattle.tap_ledger.specs.declared.act.Act.{Act}
 use Rattle.tap_ledger.specs.declared.hand.Hand.{Hand}
-use Rattle.scen_words.specs.declared.command.Command.{Command}
-use Rattle.scen_words.specs.declared.command.Command.TheVariants as command
 use Rattle.tap_world.specs.Guests.{Vhost, turn_of}
 use Rattle.tap_world.specs.World.{Actor, Doing, World, current}
 use Rattle.tap_world.specs.World.Doing.{Given, Receives, Teaches, Transmits}
 use Rattle.tap_world.specs.StepTurns as rx_turns
 use Rattle.tap_world.specs.StepTransmits as tx_turns
-use Rattle.tap_world.specs.SoundActors.{can_be}
 use Rattle.tap_world.specs.SoundRings.{Serves, TurnsAreHeld, holds_turn, is_about, serves}
 use Rattle.tap_sound.proofs.Turned.{is_at}
-use Rattle.tap_sound.proofs.Turns.{about, held}
+use Rattle.tap_sound.proofs.Turns.{held}
 
 -- the laws of turns
 pub record TurnLaws : Type 0 where
@@ -52,19 +48,6 @@ pub unserved : (w : World) (vhost ring : ℕ) (v : Vhost) → TurnsAreHeld w vho
     → (actor : ℕ) (a : Actor) → slice_get w.actors actor ≡ Some a → Serves vhost ring a → ⊥
 unserved w vhost ring v turns below free actor a at_ h =
     true≢false (sym (held_by vhost ring a h) ∙ turns ring actor a below at_ ∙ ap (is_at actor) free)
-
--- what it serves is the ring of its command
-rx_about : (vhost ring : ℕ) (c : Command) (d : Doing) (file : ℕ) (t : RxTurn) → can_be (Receives file t) c ≡ true → about vhost ring c ≡ true → (c ≡ command.RxTurn vhost) × (ring ≡ 0)
-rx_about vhost ring (command.RxTurn n) d file t can is =
-    let b = both (n == vhost) (0 == ring) is in (ap command.RxTurn (equal n vhost b.0), sym (equal 0 ring b.1))
-  where
-    both : (a b : Bool) → (a && b) ≡ true → (a ≡ true) × (b ≡ true)
-    both true b e = (refl, e)
-    both false b e = absurd (true≢false (sym e))
-
-    equal : (a b : ℕ) → (a == b) ≡ true → a ≡ b
-    equal a b e = ⊎_elim (λ t. t.1) (λ t. absurd (true≢false (sym e ∙ t.0))) (eqb_tells a b)
-rx_about vhost ring c d file t can is = absurd (true≢false (sym can))
 
 -- ---- one step of a turn
 
