@@ -1,7 +1,8 @@
 -- The first bad line of a text is one.
-use Rattle.std.proofs.Common.{◌≡◌, ℕ, suc, ◌<◌, ◌≤◌, ◌⊎◌, inl, inr, List, ◌++◌, take, drop, sym, ap, ◌∙◌, append_assoc, arith}
+use Rattle.std.proofs.Common.{◌≡◌, ℕ, Result, Err, suc, ◌<◌, ◌≤◌, ◌⊎◌, inl, inr, List, ◌++◌, take, drop, sym, ap, ◌∙◌, append_assoc, arith}
 use Rattle.std.proofs.lemmas.List.{take-append-drop, take-take}
-use Rattle.trace_text.specs.BadLine.{Begins, IsFirstBad, ended_lines}
+use Rattle.tap_trace.specs.declared.trace.Trace.{Trace}
+use Rattle.trace_text.specs.BadLine.{Begins, IsBadLine, IsFirstBad, ended_lines}
 use Rattle.trace_text.specs.Laws.{OneBadLine}
 
 -- a text that begins with some lines begins with the first of them
@@ -33,3 +34,12 @@ one_before bytes m n h k =
 
 pub one_bad : OneBadLine
 one_bad bytes m n h k = let same : h.0 ≡ k.0 = one_before bytes h.0 k.0 h.2 k.2 in omega (arith, h.1, k.1)
+
+-- a text that is refused at its first bad line has no other
+abbrev pub Refused : ℕ → Result Trace ℕ
+Refused line = Err line
+
+pub refused_there :
+    (bytes : List ℕ) (told : ℕ) → IsBadLine bytes told → (line : ℕ) → IsBadLine bytes line
+    → Refused line ≡ Refused told
+refused_there bytes told is line bad = ap Refused (one_bad bytes line told bad is)

@@ -1,6 +1,6 @@
 //! A trace read from its text.
 
-ghost use Rattle.std.specs.Prelude.{◌≤◌, length, Ok, IfErr, IfOk};
+ghost use Rattle.std.specs.Prelude.{ℕ, ◌≤◌, length, Err, Ok, IfErr, IfOk};
 ghost use Rattle.scen_words.specs.Gives.{Gives, IfFault};
 ghost use Rattle.tap_trace.specs.declared.trace.Trace.{Trace};
 ghost use Rattle.trace_text.specs.BadLine.{IsBadLine};
@@ -29,12 +29,14 @@ fn take_line(builder: &mut Builder, alloc: Global, line: &[u8]) -> Result<bool, 
 }
 
 /// The trace that the bytes stand for, or the number of their first bad line, counted from 1: the first that lacks its
-/// LF or behind which no text goes on; where all lines are good and more are wanted, the number behind the last one.
+/// LF, or where no trace's text begins with the lines up to it; where all lines are good and more are wanted, the number
+/// behind the last one.
 pub fn read_trace(alloc: Global, bytes: &[u8]) -> Result<Trace, OrMemory<u32>>
     requires { length bytes.now ≤ MAX_BYTES }
     ensures found { IfOk result (StandsFor bytes.now) }
     ensures only { (t : Trace) → StandsFor bytes.now t → Gives result (Ok t) }
     ensures bad { IfErr result (IfFault (IsBadLine bytes.now)) }
+    ensures refused { (line : ℕ) → IsBadLine bytes.now line → Gives result (Err line) }
 {
     said_laws();
     let mut builder = Builder::new(alloc);

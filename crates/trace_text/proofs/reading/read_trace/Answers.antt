@@ -1,8 +1,9 @@
-use Rattle.std.proofs.Common.{◌≡◌, ◌<◌, ◌^◌, Bool, [], length, Ok, ap, arith, rules, subst, sym}
+use Rattle.std.proofs.Common.{◌≡◌, ◌<◌, ◌+◌, ◌^◌, Bool, [], length, Ok, ap, arith, rules, subst, sym}
 use Rattle.tap_trace.specs.declared.trace.Trace.{Trace}
 use Rattle.trace_text.specs.declared.builder.Builder.{Builder}
 use Rattle.trace_text.specs.Reading.{CantStand, IsInner, TakesLine}
 use Rattle.trace_text.proofs.Exits.{bad_end, bad_line, found_trace, goes_on, is_nil, no_trace, not_there, only_trace}
+use Rattle.trace_text.proofs.OneBad.{refused_there}
 use Rattle.trace_text.proofs.ReadLines.{Read, at_end, read_count, read_start}
 use Rattle.trace_text.proofs.reading.read_trace.Goals as goal
 
@@ -82,3 +83,19 @@ returns-in-None-clause-bad c =
     bad_end c.said_laws.ensures.one c.said_laws.ensures.no_end c.args.bytes.now c.lines.rest.now c.lines.number c.lines.builder c.lines.invariant inner
     (λ t stands. no_trace c.lines.builder t
     (at_end c.said_laws.ensures.one c.said_laws.ensures.no_end c.args.bytes.now c.lines.rest.now c.lines.number c.lines.builder c.lines.invariant t inner stands).1 (sym c.in-None.ensures))
+
+pub returns-then-not-taken-clause-refused : goal.returns-then-not-taken-clause-refused
+returns-then-not-taken-clause-refused c =
+    refused_there c.args.bytes.now (c.lines.number + 1) (returns-then-not-taken-clause-bad c)
+
+pub returns-then-not-is_empty-clause-refused : goal.returns-then-not-is_empty-clause-refused
+returns-then-not-is_empty-clause-refused c =
+    refused_there c.args.bytes.now (c.lines.number + 1) (returns-then-not-is_empty-clause-bad c)
+
+pub returns-in-Some-ended-clause-refused : goal.returns-in-Some-ended-clause-refused
+returns-in-Some-ended-clause-refused c =
+    λ line bad. absurd (bad.2.no_trace c.in-Some-ended.trace (returns-in-Some-ended-clause-found c))
+
+pub returns-in-None-clause-refused : goal.returns-in-None-clause-refused
+returns-in-None-clause-refused c =
+    refused_there c.args.bytes.now (c.lines.number + 1) (returns-in-None-clause-bad c)
