@@ -2,7 +2,6 @@
 use Rattle.std.proofs.Common.{◌≡◌, ◌≢◌, ℕ, zero, suc, ◌+◌, List, [], ◌∷◌, take, Bool, true, false, Option, Some, None, inl, inr, ⊎_elim, refl, sym, ap, ◌∙◌, subst, true≢false}
 use Rattle.std.specs.Prelude.{◌==◌, ◌&&◌, ◌||◌, drop, slice_get}
 use Rattle.std.specs.List.{list_any}
-use Rattle.std.specs.Option.{option_map_or}
 use Rattle.std.proofs.Common.{eq-eqb}
 use Rattle.std.proofs.lemmas.Bool.Decides.{eqb_tells}
 use Rattle.tap_ledger.specs.declared.fate.Fate.{Fate}
@@ -35,7 +34,7 @@ use Rattle.tap_sound.proofs.Kit.{some_same, then_some, where_some}
 use Rattle.tap_sound.proofs.Scripts.{effect_actors, ended_each}
 use Rattle.tap_sound.proofs.Kept.{effect_files}
 use Rattle.tap_sound.proofs.Claims.{with_at_inv}
-use Rattle.tap_sound.proofs.Stand.{stands_are_kept}
+use Rattle.tap_sound.proofs.Stand.{stands_are_kept, stands_at}
 use Rattle.tap_sound.proofs.Whole.{begun_rest, run_rests}
 use Rattle.tap_sound.proofs.Reached.{declared, new_stands}
 use Rattle.tap_sound.proofs.Taken.{IsEnding, IsStep, both, if_some, step_is, when_settled, with_nth_get}
@@ -254,8 +253,7 @@ pub hand_is_kept : (s : Setup) (w : World) (x : Event) (u : World × Heard) → 
     → EachFile w (HandIsOwners w) → EachFile u.0 (HandIsOwners u.0)
 hand_is_kept s w x u e stand each =
     let t = step_is s w x u e in
-    let can : can_be t.actor.doing t.now.command ≡ true =
-    subst (λ (o : Option Numbered). option_map_or (λ (c : Numbered). can_be t.actor.doing c.command) o true ≡ true) t.current_is (stand x.actor t.actor t.found) in
+    let can : can_be t.actor.doing t.now.command ≡ true = stands_at t.actor t.now t.current_is (stand x.actor t.actor t.found) in
     let between = hand_between s w x u.0 t can each t.effect.files refl (effect_files t.effect x.actor t.actor x.command w t.between t.made) in
     subst (λ (q : World). EachFile q (HandIsOwners q)) t.is
     (when_settled (λ (q : World). EachFile q (HandIsOwners q)) t.between between (λ f end. purge_hand t.between f end between))
