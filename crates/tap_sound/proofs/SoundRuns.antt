@@ -96,8 +96,8 @@ unfolding lib.Count.ones
 one_is_power = refl
 
 first_is : BeginOrdered → (b : Bool) (g : Guest) → IsRing g (first_ring b)
-first_is order true g = record { lists = order true; size = record { power = one_is_power; most = omega arith }; good = λ e. absurd (true≢false (sym e)) }
-first_is order false g = record { lists = order false; size = record { power = one_is_power; most = omega arith }; good = λ e. absurd (true≢false (sym e)) }
+first_is order true g = record { lists = order true; begun = refl; size = record { power = one_is_power; most = omega arith }; good = λ e. absurd (true≢false (sym e)) }
+first_is order false g = record { lists = order false; begun = refl; size = record { power = one_is_power; most = omega arith }; good = λ e. absurd (true≢false (sym e)) }
 
 nobody : (i : ℕ) (a : Actor) → slice_get {X = Actor} [] i ≡ Some a → ⊥
 nobody i a h = cc (h)
