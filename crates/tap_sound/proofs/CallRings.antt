@@ -1,14 +1,16 @@
 -- A call on a vhost or a driver leaves the regions of its guest's memory, and its rings in order.
-use Rattle.std.proofs.Common.{◌≡◌, ℕ, ◌+◌, List, [], ◌∷◌, length, Bool, true, false, Option, Some, None, refl, sym, ap, ◌∙◌, subst}
-use Rattle.std.specs.Prelude.{if◌then◌else◌, ◌&&◌, is_none}
+use Rattle.std.proofs.Common.{◌≡◌, ℕ, ◌+◌, List, [], ◌∷◌, ◌++◌, length, Bool, true, false, Option, Some, None, refl, sym, ap, ◌∙◌, subst, true≢false}
+use Rattle.std.specs.Prelude.{if◌then◌else◌, ◌==◌, ◌&&◌, is_none, slice_get}
 use Rattle.std.specs.Option.{option_map_or}
 use Rattle.guest_mem.specs.Memory.{Contents}
 use Rattle.vring_split.specs.declared.layout.Layout.{Layout}
 use Rattle.vhost_dev.specs.declared.error.VhostErr.{VhostErr}
-use Rattle.vhost_dev.specs.Settings.{Settings, ring_at}
+use Rattle.vhost_dev.specs.Settings.{RingSettings, Settings, at_ring, is_rx, ring_at, ring_of, with_ring}
 use Rattle.vhost_dev.specs.Laws.{BackedAreGood, BackedStayGood, Call, HaveSizes, ReadyIsGood, SizesStay, after, refusal_of, made_by}
+use Rattle.vhost_dev.specs.Laws.Call.{SetAddr, SetBackend, SetBase, SetFeatures, SetNum, UnsetBackend}
 use Rattle.vhost_dev.specs.Lists.{CallsKeepOrder, HaveOrder, IsTimely}
 use Rattle.vhost_dev.specs.Calls.{chosen}
+use Rattle.vhost_dev.specs.Calls as dev
 use Rattle.vring_drive.specs.declared.error.DriveErr.{DriveErr}
 use Rattle.vring_drive.specs.declared.error.PostErr.{PostErr}
 use Rattle.vring_drive.specs.Area.{drive_refusal}
@@ -103,8 +105,47 @@ pub record DevLaws : Type 0 where
 abbrev pub BothRings : Guest → Settings → Type 0
 BothRings g s = IsRing g s.rx × IsRing g s.tx
 
-of_both : (g : Guest) (s : Settings) → BothRings g s → HaveOrder s × HaveSizes s × BackedAreGood g.memory s
-of_both g s h = (order, sizes, good)
+-- the lists of positions begin with the first chain that was published, also after a call
+abbrev BeginFirst : List (ℕ × ℕ) → Type 0
+BeginFirst lists = option_map_or (λ (l : ℕ × ℕ). l.1 == 0) (slice_get lists 0) false ≡ true
+
+abbrev HaveFirst : Settings → Type 0
+HaveFirst s = (rx : Bool) → BeginFirst (ring_of rx s).lists
+
+more_first : (lists : List (ℕ × ℕ)) (l : ℕ × ℕ) → BeginFirst lists → BeginFirst (lists ++ l ∷ [])
+more_first [] l h = absurd (true≢false (sym h))
+more_first (first ∷ lists) l h = h
+
+one_first : (ring : ℕ) (change : RingSettings → RingSettings) (s : Settings) → ((r : RingSettings) → BeginFirst r.lists → BeginFirst (change r).lists) → HaveFirst s → HaveFirst (at_ring ring change s)
+one_first ring change s keep h rx = go (is_rx ring) rx
+  where
+    go : (b q : Bool) → BeginFirst (ring_of q (with_ring b (change (ring_of b s)) s)).lists
+    go true true = keep s.rx (h true)
+    go true false = h false
+    go false true = h true
+    go false false = keep s.tx (h false)
+
+made_first : (m : Contents) (s : Settings) (x : Call) → HaveFirst s → HaveFirst (made_by m s x)
+made_first m s (SetFeatures bits) h = both
+  where
+    both : HaveFirst (dev.with_features bits s)
+    both true = h true
+    both false = h false
+made_first m s (SetNum ring n) h = one_first ring (dev.resized n) s (λ r k. k) h
+made_first m s (SetBase ring base) h = one_first ring (dev.begun base) s (λ r k. more_first r.lists _ k) h
+made_first m s (SetAddr ring desc avail used) h = one_first ring (dev.placed desc avail used) s (λ r k. k) h
+made_first m s (SetBackend ring file) h = one_first ring (dev.backed file m) s (λ r k. k) h
+made_first m s (UnsetBackend ring) h = one_first ring dev.unbacked s (λ r k. k) h
+
+after_first : (m : Contents) (s : Settings) (x : Call) → HaveFirst s → HaveFirst (after m s x)
+after_first m s x h = go (refusal_of m s x)
+  where
+    go : (o : Option VhostErr) → HaveFirst (chosen o s (made_by m s x))
+    go None = made_first m s x h
+    go (Some e) = h
+
+of_both : (g : Guest) (s : Settings) → BothRings g s → HaveOrder s × HaveSizes s × BackedAreGood g.memory s × HaveFirst s
+of_both g s h = (order, sizes, good, first)
   where
     order : HaveOrder s
     order true = h.0.lists
@@ -118,10 +159,14 @@ of_both g s h = (order, sizes, good)
     good true k = h.0.good k
     good false k = h.1.good k
 
-to_both : (g : Guest) (s : Settings) → HaveOrder s → HaveSizes s → BackedAreGood g.memory s → BothRings g s
-to_both g s order sizes good = (
-  record { lists = order true; size = sizes true; good = λ k. good true k },
-  record { lists = order false; size = sizes false; good = λ k. good false k },
+    first : HaveFirst s
+    first true = h.0.begun
+    first false = h.1.begun
+
+to_both : (g : Guest) (s : Settings) → HaveOrder s → HaveSizes s → BackedAreGood g.memory s → HaveFirst s → BothRings g s
+to_both g s order sizes good first = (
+  record { lists = order true; begun = first true; size = sizes true; good = λ k. good true k },
+  record { lists = order false; begun = first false; size = sizes false; good = λ k. good false k },
 )
 
 -- a call that isn't refused and no backend
@@ -130,4 +175,4 @@ call_keeps laws g s t x timely lawful is h =
     let b = of_both g s h in
     let same : after g.memory s x ≡ t = ap (λ (o : Option VhostErr). chosen o s (made_by g.memory s x)) lawful ∙ sym is in
     subst (BothRings g) same
-    (to_both g (after g.memory s x) (laws.order g.memory s x timely b.0) (laws.sizes g.memory s x b.1) (laws.good g.memory s x b.1 b.2))
+    (to_both g (after g.memory s x) (laws.order g.memory s x timely b.0) (laws.sizes g.memory s x b.1) (laws.good g.memory s x b.1 b.2) (after_first g.memory s x b.3))

@@ -211,6 +211,15 @@ no_batch line e = count_none in_batch line (none_is in_batch line (some_is_none 
     some_is_none None k = refl
     some_is_none (Some i) k = absurd (true≢false k)
 
+pub course_parts : (f g : File) → Course f g → InThreeParts f.line → InThreeParts g.line
+course_parts f g (Grows actor name epoch len unshut spent full is) h =
+    subst (λ (q : File). InThreeParts q.line) is (parts_more f.line (record { name = name; epoch = epoch; len = len; stands = Claimed actor }) refl h)
+course_parts f g (Shifts i s hand how room is) h = subst (λ (q : File). InThreeParts q.line) is (parts_shift f.line i s how h)
+course_parts f g (Fills hand none is) h = subst (λ (q : File). InThreeParts q.line) is (filled_keeps InThreeParts (λ line i front q. parts_moved line i front q) 64 f.line h)
+course_parts f g (Opens shut empty is) h = subst (λ (q : File). InThreeParts q.line) is h
+course_parts f g (Resizes capacity is) h = subst (λ (q : File). InThreeParts q.line) is h
+course_parts f g (Rests line first epoch capacity) h = subst InThreeParts (sym line) h
+
 pub course_ordered : (f g : File) → Course f g → IsOrdered f → IsOrdered g
 course_ordered f g (Grows actor name epoch len unshut spent full is) h =
     let e : Entry = record { name = name; epoch = epoch; len = len; stands = Claimed actor } in

@@ -1,7 +1,6 @@
 -- The names of events are new in every world that a run reaches.
 use Rattle.std.proofs.Common.{◌≡◌, ◌≢◌, ◌⊎◌, ℕ, zero, suc, ◌+◌, ◌≤◌, ◌<◌, List, [], ◌∷◌, length, map, filter, take, Bool, true, false, Option, Some, inl, inr, ⊎_elim, refl, sym, ap, ◌∙◌, subst, arith}
 use Rattle.std.specs.Prelude.{if◌then◌else◌, ◌==◌, ◌&&◌, drop, slice_get}
-use Rattle.std.specs.Option.{option_map_or}
 use Rattle.std.proofs.Common.{eq-eqb}
 use Rattle.std.proofs.lemmas.Bool.Decides.{eqb_tells}
 use Rattle.tap_frame.specs.declared.name.Name.{Name}
@@ -27,7 +26,7 @@ use Rattle.tap_sound.specs.Fresh.{AreNumbered, ArePhasesNumbered}
 use Rattle.tap_sound.specs.Reached.{IsReached}
 use Rattle.tap_sound.proofs.Kit.{some_same, then_some, where_some}
 use Rattle.tap_sound.proofs.Scripts.{effect_actors, first_of_list}
-use Rattle.tap_sound.proofs.Stand.{stands_are_kept}
+use Rattle.tap_sound.proofs.Stand.{stands_are_kept, stands_at}
 use Rattle.tap_sound.proofs.Reached.{new_stands}
 use Rattle.tap_sound.proofs.Taken.{IsEnding, IsStep, if_some, row_is, step_is, when_settled}
 use Rattle.tap_sound.proofs.NamesTimes.{effect_times}
@@ -122,8 +121,7 @@ not_in F me n ns m (inr p) o = ap (times_in m) p.1 ∙ other_name m me n p.0 o
 -- ---- an event
 
 can_now : (w : World) (i : ℕ) (a : Actor) (c : Numbered) → EachActor w (λ actor b. CanBe b) → slice_get w.actors i ≡ Some a → slice_get a.script 0 ≡ Some c → can_be a.doing c.command ≡ true
-can_now w i a c stand found is =
-    subst (λ (o : Option Numbered). option_map_or (λ (x : Numbered). can_be a.doing x.command) o true ≡ true) is (stand i a found)
+can_now w i a c stand found is = stands_at a c is (stand i a found)
 
 fresh_now : (w : World) (to i : ℕ) (a : Actor) (c : Numbered) → HasNew w to → slice_get w.actors i ≡ Some a → slice_get a.script 0 ≡ Some c
     → (cs : List Numbered) × (a.script ≡ c ∷ cs) × FreshScript (Free w) to i a.doing (c ∷ cs)

@@ -1,6 +1,6 @@
 -- What the events of a receive turn do with the frame in hand.
 use Rattle.std.proofs.Common.{◌≡◌, ◌⊎◌, ℕ, List, Bool, true, false, Option, Some, None, inl, inr, refl, sym, ap, ◌∙◌, subst, true≢false}
-use Rattle.std.specs.Prelude.{◌+◌, length}
+use Rattle.std.specs.Prelude.{◌+◌, length, option_map, slice_get}
 use Rattle.tap_frame.specs.Frame.{FrameValue}
 use Rattle.tap_ledger.specs.declared.act.Act.{Act}
 use Rattle.tap_ledger.specs.declared.fate.Fate.{Fate}
@@ -21,7 +21,10 @@ use Rattle.tap_world.specs.declared.event.EventKind.TheVariants as event
 use Rattle.tap_world.specs.declared.event.Found.{Found}
 use Rattle.tap_world.specs.declared.event.Found.TheVariants as found
 use Rattle.tap_world.specs.ByNumber.{at}
-use Rattle.tap_world.specs.Setup.{Numbered, Setup}
+use Rattle.tap_world.specs.Then.{◌>>=◌}
+use Rattle.tap_world.specs.Frames.{FrameText}
+use Rattle.tap_world.specs.Setup.{Numbered, Setup, frame_of}
+use Rattle.tap_world.specs.Line.{Entry, File, first_that, in_batch}
 use Rattle.tap_world.specs.LineSteps.{changed}
 use Rattle.tap_world.specs.LineSteps.Change.{Leaves, PutsBack, Takes}
 use Rattle.tap_world.specs.World.{Doing, World}
@@ -34,8 +37,8 @@ use Rattle.tap_world.specs.Step.{row}
 use Rattle.tap_world.specs.StepTurns as rx_turns
 use Rattle.tap_world.specs.StepTransmits as tx_turns
 use Rattle.tap_world.specs.SoundActors.{can_be}
-use Rattle.tap_world.specs.Sound.{has_in_hand}
-use Rattle.tap_sound.proofs.Kit.{WhereSome, where_some, where_then}
+use Rattle.tap_world.specs.Sound.{front_name, has_in_hand}
+use Rattle.tap_sound.proofs.Kit.{WhereSome, some_same, some_then, then_some, where_some, where_then}
 use Rattle.tap_sound.proofs.Steps.{turning}
 use Rattle.tap_sound.proofs.Follows.{at_kind}
 
@@ -50,8 +53,8 @@ goes_on (rx.NoticesOff way) = true
 goes_on rx.Copy = true
 goes_on st = false
 
-abbrev Held : RxState × Act → Type 0
-Held made = has_in_hand made.0.turn.stage ≡ true
+abbrev Held : Option FrameValue → RxState × Act → Type 0
+Held held made = (has_in_hand made.0.turn.stage ≡ true) × (made.0.turn.held ≡ held)
 
 way_held : (way : After) → has_in_hand (turn.stage_of way) ≡ true
 way_held after.Fetch = refl
@@ -67,36 +70,36 @@ second_held : (need : ℕ) (cs : List Gathered) (o : Option After) → has_in_ha
 second_held need cs None = refl
 second_held need cs (Some way) = refl
 
-with_held : (st : RxStage) (frame : FrameValue) (s : RxState) → goes_on st ≡ true → WhereSome Held (turn.rx_with st frame s)
+with_held : (st : RxStage) (frame : FrameValue) (s : RxState) → goes_on st ≡ true → WhereSome (Held s.turn.held) (turn.rx_with st frame s)
 unfolding goes_on
-with_held rx.Fetch frame s e = first_held (turn.rx_way _ s)
-with_held rx.FetchAgain frame s e = second_held _ s.turn.chains (turn.rx_way _ s)
+with_held rx.Fetch frame s e = (first_held (turn.rx_way _ s), refl)
+with_held rx.FetchAgain frame s e = (second_held _ s.turn.chains (turn.rx_way _ s), refl)
 with_held rx.Copy frame s e = go (copies_in s.turn.header frame (turn.rx_ring s) s.memory)
   where
-    go : (o : Option Made) → WhereSome Held (elim o [
+    go : (o : Option Made) → WhereSome (Held s.turn.held) (elim o [
       | None ↦ None
       | Some made ↦
           let next = turn.rx_made made rx.Out s in
           Some (record next.0 { turn = record next.0.turn { handled = s.turn.handled + length s.turn.chains } }, next.1)
     ])
     go None = tt
-    go (Some made) = refl
+    go (Some made) = (refl, refl)
 with_held rx.Out frame s e = absurd (true≢false (sym e))
 with_held (rx.Discard had) frame s e = absurd (true≢false (sym e))
 with_held (rx.PutBack x) frame s e = absurd (true≢false (sym e))
 with_held st frame s e = tt
 
-next_held : (st : RxStage) (s : RxState) → s.turn.stage ≡ st → goes_on st ≡ true → WhereSome Held (turn.rx_next st hand.Off s)
+next_held : (st : RxStage) (s : RxState) → s.turn.stage ≡ st → goes_on st ≡ true → WhereSome (Held s.turn.held) (turn.rx_next st hand.Off s)
 unfolding goes_on
 next_held rx.Begin s is e = absurd (true≢false (sym e))
 next_held rx.Hand s is e = absurd (true≢false (sym e))
-next_held rx.NoticesOn s is e = refl
-next_held (rx.NoticesOff way) s is e = way_held way
+next_held rx.NoticesOn s is e = (refl, refl)
+next_held (rx.NoticesOff way) s is e = (way_held way, refl)
 next_held (rx.Publish x) s is e = absurd (true≢false (sym e))
 next_held (rx.Ended x) s is e = absurd (true≢false (sym e))
 next_held st s is e = go s.turn.held
   where
-    go : (o : Option FrameValue) → WhereSome Held (turn.rx_in_hand o s)
+    go : (o : Option FrameValue) → WhereSome (Held s.turn.held) (turn.rx_in_hand o s)
     go None = tt
     go (Some frame) = with_held s.turn.stage frame s (ap goes_on is ∙ e)
 
@@ -109,17 +112,18 @@ not_over st e = refl
 abbrev pub Frees : ℕ → OnFiles → Type 0
 Frees file o = ((worker : Option ℕ) × (f : Fate) × (o ≡ OnFile file (Leaves worker f))) ⊎ ((vhost : ℕ) × (o ≡ OnFile file (PutsBack vhost)))
 
-abbrev pub GoesHeld : ℕ → Onward → Type 0
-GoesHeld file o = (seen : ℕ) × (u : RxTurn) × (f : Found) × (o ≡ Goes seen (Receives file u) f) × (has_in_hand u.stage ≡ true)
+abbrev pub GoesHeld : ℕ → Option FrameValue → Onward → Type 0
+GoesHeld file held o = (seen : ℕ) × (u : RxTurn) × (f : Found) × (o ≡ Goes seen (Receives file u) f) × (has_in_hand u.stage ≡ true) × (u.held ≡ held)
 
-abbrev pub Keeps : ℕ → Effect → Type 0
-Keeps file r = GoesHeld file r.onward ⊎ Frees file r.files
+abbrev pub Keeps : ℕ → Option FrameValue → Effect → Type 0
+Keeps file held r = GoesHeld file held r.onward ⊎ Frees file r.files
 
-onward_held : (seen file : ℕ) (f : Found) (made : RxState × Act) → Held made → GoesHeld file (rx_turns.rx_onward seen file made.0.turn f (rx_turns.rx_over made.0.turn.stage))
-onward_held seen file f made h = (seen, made.0.turn, f, ap (rx_turns.rx_onward seen file made.0.turn f) (not_over made.0.turn.stage h), h)
+onward_held : (seen file : ℕ) (held : Option FrameValue) (f : Found) (made : RxState × Act) → Held held made
+    → GoesHeld file held (rx_turns.rx_onward seen file made.0.turn f (rx_turns.rx_over made.0.turn.stage))
+onward_held seen file held f made h = (seen, made.0.turn, f, ap (rx_turns.rx_onward seen file made.0.turn f) (not_over made.0.turn.stage h.0), h.0, h.1)
 
-made_keeps : (st : RxStage) (seen vhost file : ℕ) (t : RxTurn) (f : Found) (made : RxState × Act) → t.stage ≡ st → has_in_hand st ≡ true → (goes_on st ≡ true → Held made)
-    → GoesHeld file (rx_turns.rx_onward seen file made.0.turn f (rx_turns.rx_over made.0.turn.stage)) ⊎ Frees file (rx_turns.rx_change vhost file t t.stage)
+made_keeps : (st : RxStage) (seen vhost file : ℕ) (t : RxTurn) (f : Found) (made : RxState × Act) → t.stage ≡ st → has_in_hand st ≡ true → (goes_on st ≡ true → Held t.held made)
+    → GoesHeld file t.held (rx_turns.rx_onward seen file made.0.turn f (rx_turns.rx_over made.0.turn.stage)) ⊎ Frees file (rx_turns.rx_change vhost file t t.stage)
 unfolding goes_on
 made_keeps rx.Out seen vhost file t f made is h on = inr (inl (Some vhost, fate.Guest, ap (rx_turns.rx_change vhost file t) is))
 made_keeps (rx.Discard had) seen vhost file t f made is h on = inr (inl (Some vhost, _, ap (rx_turns.rx_change vhost file t) is))
@@ -128,26 +132,26 @@ made_keeps rx.Begin seen vhost file t f made is h on = absurd (true≢false (sym
 made_keeps rx.Hand seen vhost file t f made is h on = absurd (true≢false (sym h))
 made_keeps (rx.Publish x) seen vhost file t f made is h on = absurd (true≢false (sym h))
 made_keeps (rx.Ended x) seen vhost file t f made is h on = absurd (true≢false (sym h))
-made_keeps st seen vhost file t f made is h on = inl (onward_held seen file f made (on refl))
+made_keeps st seen vhost file t f made is h on = inl (onward_held seen file t.held f made (on refl))
 
 turn_keeps : (w : World) (actor n seen file : ℕ) (t : RxTurn) (c : Command) → has_in_hand t.stage ≡ true
-    → WhereSome (Keeps file) (tx_turns.turns w actor n seen (Receives file t) c)
-turn_keeps w actor n seen file t c h = turning (Keeps file) w c (tx_turns.goes_on w actor seen (Receives file t))
-    (λ vhost v m. where_then (Keeps file) (turn.rx_step hand.Off (rx_turns.rx_state t v m)) _
+    → WhereSome (Keeps file t.held) (tx_turns.turns w actor n seen (Receives file t) c)
+turn_keeps w actor n seen file t c h = turning (Keeps file t.held) w c (tx_turns.goes_on w actor seen (Receives file t))
+    (λ vhost v m. where_then (Keeps file t.held) (turn.rx_step hand.Off (rx_turns.rx_state t v m)) _
     (λ made e. made_keeps t.stage seen vhost file t _ made refl h
-    (λ on. where_some Held (turn.rx_step hand.Off (rx_turns.rx_state t v m)) made (next_held t.stage (rx_turns.rx_state t v m) refl on) e)))
+    (λ on. where_some (Held t.held) (turn.rx_step hand.Off (rx_turns.rx_state t v m)) made (next_held t.stage (rx_turns.rx_state t v m) refl on) e)))
 
 -- the row of the event that comes next in such a turn
 pub row_keeps : (s : Setup) (w : World) (k : EventKind) (actor seen : ℕ) (script : List Numbered) (n file : ℕ) (t : RxTurn) (c : Command) (st : RxStage) → t.stage ≡ st
     → has_in_hand st ≡ true → is_kind k (rx_next_kind w file st) ≡ true
-    → WhereSome (Keeps file) (row s w k actor (record { seen = seen; script = script; doing = Receives file t }) n c)
+    → WhereSome (Keeps file t.held) (row s w k actor (record { seen = seen; script = script; doing = Receives file t }) n c)
 row_keeps s w k actor seen script n file t c st is h e = go st h e (turn_keeps w actor n seen file t c (ap has_in_hand is ∙ h))
   where
     P : EventKind → Type 0
-    P j = WhereSome (Keeps file) (row s w j actor (record { seen = seen; script = script; doing = Receives file t }) n c)
+    P j = WhereSome (Keeps file t.held) (row s w j actor (record { seen = seen; script = script; doing = Receives file t }) n c)
 
     go : (st : RxStage) → has_in_hand st ≡ true → is_kind k (rx_next_kind w file st) ≡ true
-        → WhereSome (Keeps file) (tx_turns.turns w actor n seen (Receives file t) c) → P k
+        → WhereSome (Keeps file t.held) (tx_turns.turns w actor n seen (Receives file t) c) → P k
     go rx.Begin h e q = absurd (true≢false (sym h))
     go rx.Hand h e q = absurd (true≢false (sym h))
     go (rx.Publish x) h e q = absurd (true≢false (sym h))
@@ -167,27 +171,61 @@ hand_stage : (w : World) (file : ℕ) (st : RxStage) → is_kind event.Hand (rx_
 hand_stage w file rx.Hand e = refl
 hand_stage w file st e = absurd (true≢false (sym e))
 
-got_held : (st : RxStage) (frame : FrameValue) (s : RxState) → rx.Hand ≡ st → WhereSome Held (turn.rx_next st (hand.Got frame) s)
-got_held st frame s is = subst (λ (x : RxStage). WhereSome Held (turn.rx_next x (hand.Got frame) s)) is refl
+got_held : (st : RxStage) (frame : FrameValue) (s : RxState) → rx.Hand ≡ st → WhereSome (Held (Some frame)) (turn.rx_next st (hand.Got frame) s)
+got_held st frame s is = subst (λ (x : RxStage). WhereSome (Held (Some frame)) (turn.rx_next x (hand.Got frame) s)) is (refl, refl)
 
-abbrev pub TakesBy : Command → Effect → Type 0
-TakesBy c r = (vhost file : ℕ) × (r.files ≡ OnFile file (Takes vhost)) × GoesHeld file r.onward × (c ≡ command.RxTurn vhost)
+-- the frame is the batch's front
+abbrev frame_made : Entry → FrameText → FrameValue
+frame_made e f = record { name = e.name; hdr = f.hdr; made = f.ether; mark = length f.ether }
+
+frame_named : (s : Setup) (e : Entry) (frame : FrameValue) → rx_turns.frame_at s e ≡ Some frame → e.name ≡ frame.name
+frame_named s e frame h = go (frame_of s e.name e.len) h
+  where
+    go : (o : Option FrameText) → option_map (frame_made e) o ≡ Some frame → e.name ≡ frame.name
+    go None k = absurd (cc (k))
+    go (Some f) k = ap (λ (x : FrameValue). x.name) (some_same (frame_made e f) frame k)
+
+front_named : (s : Setup) (f : File) (frame : FrameValue) → rx_turns.front_frame s f ≡ Some frame → front_name f.line ≡ Some frame.name
+front_named s f frame h =
+    let i = then_some (first_that in_batch f.line) _ frame h in
+    let e = then_some (slice_get f.line i.0) _ frame i.2 in
+    some_then (first_that in_batch f.line) (λ j. slice_get f.line j >>= λ (x : Entry). Some x.name) i.0 frame.name i.1
+    (some_then (slice_get f.line i.0) (λ (x : Entry). Some x.name) e.0 frame.name e.1 (ap Some (frame_named s e.0 frame e.2)))
+
+pub record TakesBy (w : World) (c : Command) (r : Effect) : Type 0 where
+  pub vhost : ℕ
+  pub file : ℕ
+  pub files : r.files ≡ OnFile file (Takes vhost)
+  pub before : File
+  pub now : File
+  pub frame : FrameValue
+  pub found : at w.files file ≡ Some before
+  pub changes : changed (Takes vhost) before ≡ Some now
+  pub front : front_name now.line ≡ Some frame.name
+  pub goes : GoesHeld file (Some frame) r.onward
+  pub asked : c ≡ command.RxTurn vhost
 
 pub hands_take : (s : Setup) (w : World) (actor seen : ℕ) (d : Doing) (c : Command) → can_be d c ≡ true → is_kind event.Hand (next_kind w d c) ≡ true
-    → WhereSome (TakesBy c) (tx_turns.hands s w actor seen d c)
+    → WhereSome (TakesBy w c) (tx_turns.hands s w actor seen d c)
 hands_take s w actor seen (Receives file t) (command.RxTurn vhost) can e =
     let c : Command = command.RxTurn vhost in
-    where_then (TakesBy c) (at w.vhosts vhost) _ (λ v e1. where_then (TakesBy c) (at w.guests v.guest) _
-    (λ g e2. where_then (TakesBy c) (at w.files file) _ (λ f e3. where_then (TakesBy c) (changed (Takes vhost) f) _
-    (λ h e4. where_then (TakesBy c) (rx_turns.front_frame s h) _ (λ frame e5. where_then (TakesBy c) (turn.rx_step (hand.Got frame) (rx_turns.rx_state t v g.memory)) _
-    (λ made e6. (
-      vhost,
-      file,
-      refl,
-      onward_held seen file (found.Moved frame.name) made
-          (where_some Held (turn.rx_step (hand.Got frame) (rx_turns.rx_state t v g.memory)) made
-          (got_held t.stage frame (rx_turns.rx_state t v g.memory) (sym (hand_stage w file t.stage e))) e6),
-      refl,
-    )))))))
+    where_then (TakesBy w c) (at w.vhosts vhost) _ (λ v e1. where_then (TakesBy w c) (at w.guests v.guest) _
+    (λ g e2. where_then (TakesBy w c) (at w.files file) _ (λ f e3. where_then (TakesBy w c) (changed (Takes vhost) f) _
+    (λ h e4. where_then (TakesBy w c) (rx_turns.front_frame s h) _ (λ frame e5. where_then (TakesBy w c) (turn.rx_step (hand.Got frame) (rx_turns.rx_state t v g.memory)) _
+    (λ made e6. record {
+      vhost = vhost;
+      file = file;
+      files = refl;
+      before = f;
+      now = h;
+      frame = frame;
+      found = e3;
+      changes = e4;
+      front = front_named s h frame e5;
+      goes = onward_held seen file (Some frame) (found.Moved frame.name) made
+          (where_some (Held (Some frame)) (turn.rx_step (hand.Got frame) (rx_turns.rx_state t v g.memory)) made
+          (got_held t.stage frame (rx_turns.rx_state t v g.memory) (sym (hand_stage w file t.stage e))) e6);
+      asked = refl;
+    }))))))
 hands_take s w actor seen (Receives file t) c can e = absurd (true≢false (sym can))
 hands_take s w actor seen d c can e = tt

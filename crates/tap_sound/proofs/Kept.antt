@@ -18,14 +18,14 @@ use Rattle.tap_world.specs.Effect.{Effect, OnFiles, Onward, actor_after, files_a
 use Rattle.tap_world.specs.Effect.Onward.{Ends, Goes, Stays}
 use Rattle.tap_world.specs.Effect.OnFiles.{NoFile, OnFile}
 use Rattle.tap_world.specs.Step.{step}
-use Rattle.tap_world.specs.Sound.{EachActor, EachFile, HasEpochs, HasRoom, HasSeen, capacity_before}
+use Rattle.tap_world.specs.Sound.{EachActor, EachFile, HasEpochs, HasRoom, HasSeen, InThreeParts, capacity_before}
 use Rattle.tap_sound.specs.Kept.{IsOrdered, leaves_sizes}
 use Rattle.tap_sound.proofs.Kit.{some_same, then_some, where_some}
 use Rattle.tap_sound.proofs.Scripts.{effect_actors}
 use Rattle.tap_sound.proofs.Tame.{HasGoodFate, HasSeenTo, IsTame, KeepsSize}
 use Rattle.tap_sound.proofs.TameRows.{is_publish, is_resize, row_is_tame}
 use Rattle.tap_sound.proofs.Taken.{IsStep, each_with_at, each_with_nth, step_is, when_settled}
-use Rattle.tap_sound.proofs.Files.{Course, course, course_epochs, course_ordered, course_room, fair}
+use Rattle.tap_sound.proofs.Files.{Course, course, course_epochs, course_ordered, course_parts, course_room, fair}
 
 abbrev pub EachOf : (ℕ → File → Type 0) → List (Option File) → Type 0
 EachOf P files = (file : ℕ) (f : File) → at files file ≡ Some f → P file f
@@ -63,6 +63,10 @@ every_event_keeps P keep s w x u e each =
 pub epochs_are_kept : (s : Setup) (w : World) (x : Event) (u : World × Heard) → step s w x ≡ Some u
     → EachFile w (λ file f. HasEpochs f) → EachFile u.0 (λ file f. HasEpochs f)
 epochs_are_kept s w x u e each = every_event_keeps HasEpochs course_epochs s w x u e each
+
+pub parts_are_kept : (s : Setup) (w : World) (x : Event) (u : World × Heard) → step s w x ≡ Some u
+    → EachFile w (λ file f. InThreeParts f.line) → EachFile u.0 (λ file f. InThreeParts f.line)
+parts_are_kept s w x u e each = every_event_keeps (λ (f : File). InThreeParts f.line) course_parts s w x u e each
 
 pub lines_are_kept : (s : Setup) (w : World) (x : Event) (u : World × Heard) → step s w x ≡ Some u
     → EachFile w (λ file f. IsOrdered f) → EachFile u.0 (λ file f. IsOrdered f)

@@ -1,5 +1,5 @@
 -- Options, tests and lists by number, taken apart.
-use Rattle.std.proofs.Common.{◌≡◌, Option, Some, None, Bool, true, false, refl, subst}
+use Rattle.std.proofs.Common.{◌≡◌, Option, Some, None, Bool, true, false, refl, ap, ◌∙◌, subst}
 use Rattle.std.specs.Prelude.{if◌then◌else◌}
 use Rattle.tap_world.specs.Then.{◌>>=◌, only_if}
 
@@ -9,6 +9,10 @@ some_same x y e = cc (e)
 pub then_some : {A B : Type 0} (o : Option A) (g : A → Option B) (y : B) → (o >>= g) ≡ Some y → (x : A) × (o ≡ Some x) × (g x ≡ Some y)
 then_some None g y e = absurd (cc (e))
 then_some (Some x) g y e = (x, refl, e)
+
+pub some_then : {A B : Type 0} (o : Option A) (g : A → Option B) (x : A) (y : B) → o ≡ Some x → g x ≡ Some y → (o >>= g) ≡ Some y
+some_then None g x y e h = absurd (cc (e))
+some_then (Some z) g x y e h = ap g (some_same z x e) ∙ h
 
 pub only_some : {A : Type 0} (b : Bool) (x y : A) → only_if b x ≡ Some y → (b ≡ true) × (x ≡ y)
 only_some true x y e = (refl, some_same x y e)

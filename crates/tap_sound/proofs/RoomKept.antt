@@ -14,7 +14,7 @@ use Rattle.tap_world.specs.declared.event.EventKind.TheVariants as event
 use Rattle.tap_world.specs.declared.event.Heard.{Heard}
 use Rattle.tap_world.specs.ByNumber.{at}
 use Rattle.scen_words.specs.declared.command.Command.{Command}
-use Rattle.tap_world.specs.Setup.{Numbered, Setup, opening_table}
+use Rattle.tap_world.specs.Setup.{Setup, opening_table}
 use Rattle.tap_world.specs.Line.{Entry, File, claimed, freed, is_over}
 use Rattle.tap_world.specs.LineSteps.{Change, changed}
 use Rattle.tap_world.specs.LineSteps.Change.{Sizes}
@@ -31,6 +31,7 @@ use Rattle.tap_sound.specs.Kept.{IsOrdered, leaves_sizes}
 use Rattle.tap_world.specs.Then.{◌>>=◌}
 use Rattle.tap_sound.proofs.Kit.{only_some, some_same, where_some}
 use Rattle.tap_sound.proofs.Kept.{effect_files, effect_ops, room_is_kept, same_table, step_keeps}
+use Rattle.tap_sound.proofs.Stand.{stands_at}
 use Rattle.tap_sound.proofs.Taken.{IsStep, step_is, when_settled}
 use Rattle.tap_sound.proofs.RoomTable.{resize_elsewhere, same_after}
 use Rattle.tap_sound.proofs.RoomRows.{Publishes, Resizing, SizesBy, publish_is, resize_is}
@@ -112,8 +113,7 @@ publish_room s w x u t y kind sound sizes file f here =
 when_published : (s : Setup) (w : World) (x : Event) (u : World) (t : IsStep s w x u) → x.kind ≡ event.Publish → HadRoom s w
     → EachFile u (λ file f. HasRoom (capacity_before file (table s u)) f)
 when_published s w x u t kind sound file f here =
-    let can : can_be t.actor.doing t.now.command ≡ true =
-    subst (λ (o : Option Numbered). option_map_or (λ (c : Numbered). can_be t.actor.doing c.command) o true ≡ true) t.current_is (sound.stand x.actor t.actor t.found) in
+    let can : can_be t.actor.doing t.now.command ≡ true = stands_at t.actor t.now t.current_is (sound.stand x.actor t.actor t.found) in
     let p : Publishes t.actor.doing t.effect =
     where_some (Publishes t.actor.doing) _ t.effect (publish_is s w x.actor t.actor.doing t.now.command can)
     (subst (λ (k : EventKind). row s w k x.actor t.actor t.now.number t.now.command ≡ Some t.effect) kind t.is_row) in

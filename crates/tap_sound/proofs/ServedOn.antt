@@ -56,6 +56,7 @@ stands_still v new same d h = tt
 pub ring_on : (g new : Guest) (r : RingSettings) → new.memory.regions ≡ g.memory.regions → IsRing g r → IsRing new r
 ring_on g new r same h = record {
   lists = h.lists;
+  begun = h.begun;
   size = h.size;
   good = λ backed. subst (λ (rs : List Region). IsGoodFor r.queue.layout (covers rs)) (sym same) (h.good backed);
 }

@@ -22,6 +22,7 @@ use Rattle.tap_sound.proofs.TurnRings.{RingLaws}
 use Rattle.std.specs.Option.{option_map_or}
 use Rattle.std.specs.List.{list_any}
 use Rattle.std.specs.Int.{is_power_of_two}
+use Rattle.tap_frame.specs.declared.name.Name.{Name}
 use Rattle.guest_mem.specs.declared.region.Region.{Region}
 use Rattle.tap_ledger.specs.declared.side.Side.{Side}
 use Rattle.tap_ledger.specs.declared.side.Side.TheVariants.{Rx, Tx}
@@ -96,8 +97,8 @@ unfolding lib.Count.ones
 one_is_power = refl
 
 first_is : BeginOrdered → (b : Bool) (g : Guest) → IsRing g (first_ring b)
-first_is order true g = record { lists = order true; size = record { power = one_is_power; most = omega arith }; good = λ e. absurd (true≢false (sym e)) }
-first_is order false g = record { lists = order false; size = record { power = one_is_power; most = omega arith }; good = λ e. absurd (true≢false (sym e)) }
+first_is order true g = record { lists = order true; begun = refl; size = record { power = one_is_power; most = omega arith }; good = λ e. absurd (true≢false (sym e)) }
+first_is order false g = record { lists = order false; begun = refl; size = record { power = one_is_power; most = omega arith }; good = λ e. absurd (true≢false (sym e)) }
 
 nobody : (i : ℕ) (a : Actor) → slice_get {X = Actor} [] i ≡ Some a → ⊥
 nobody i a h = cc (h)
@@ -171,10 +172,10 @@ still_free w (Some n) still there held = go (slice_get w.actors n) refl there
     go None is h = absurd (true≢false (sym h ∙ ap (λ (q : Option Actor). is_some q) is))
     go (Some a) is h = absurd (true≢false (sym (held n a is ∙ itself n)))
 
-none_serves : (vhost file : ℕ) (xs : List Actor) → ((i : ℕ) (a : Actor) → slice_get xs i ≡ Some a → a.doing ≡ Begun) → list_any (is_serving vhost file) xs ≡ false
-none_serves vhost file [] h = refl
-none_serves vhost file (x ∷ xs) h =
-    ap (λ (d : Doing). is_receiving file d && is_about vhost 0 (current x.script) || list_any (is_serving vhost file) xs) (h 0 x refl) ∙ none_serves vhost file xs (λ i. h (suc i))
+none_serves : (vhost file : ℕ) (n : Name) (xs : List Actor) → ((i : ℕ) (a : Actor) → slice_get xs i ≡ Some a → a.doing ≡ Begun) → list_any (is_serving vhost file n) xs ≡ false
+none_serves vhost file n [] h = refl
+none_serves vhost file n (x ∷ xs) h =
+    ap (λ (d : Doing). is_receiving file n d && is_about vhost 0 (current x.script) || list_any (is_serving vhost file n) xs) (h 0 x refl) ∙ none_serves vhost file n xs (λ i. h (suc i))
 
 begins_sound : (s : Setup) (number : ℕ) (p : Phase) (w : World) → IsSound s w → IsStill w → IsSound s (begins number p w)
 begins_sound s number p w h still = record {
@@ -189,7 +190,7 @@ begins_sound s number p w h still = record {
   found = fits.found;
   hand = λ file f at_ vhost e.
       let k = h.hand file f at_ vhost e in
-      absurd (true≢false (sym k.2 ∙ none_serves vhost file w.actors still));
+      absurd (true≢false (sym k.3 ∙ none_serves vhost file k.1 w.actors still));
   rings = h.rings;
   served = λ vhost r at_.
       let k = h.served vhost r at_ in

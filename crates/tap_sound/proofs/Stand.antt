@@ -11,7 +11,7 @@ use Rattle.tap_world.specs.Effect.{Onward, actor_after}
 use Rattle.tap_world.specs.Effect.Onward.{Ends, Goes, Stays}
 use Rattle.tap_world.specs.Step.{step}
 use Rattle.tap_world.specs.Sound.{EachActor}
-use Rattle.tap_world.specs.SoundActors.{CanBe, can_be}
+use Rattle.tap_world.specs.SoundActors.{CanBe, can_be, is_begun}
 use Rattle.tap_sound.proofs.Kit.{where_some}
 use Rattle.tap_sound.proofs.Scripts.{effect_actors}
 use Rattle.tap_sound.proofs.Standing.{Leads, To, row_leads}
@@ -22,10 +22,10 @@ begun_stands seen [] = refl
 begun_stands seen (c ∷ cs) = refl
 
 pub stands_at : (a : Actor) (c : Numbered) → slice_get a.script 0 ≡ Some c → CanBe a → can_be a.doing c.command ≡ true
-stands_at a c at h = sym (ap (λ (o : Option Numbered). option_map_or (λ (x : Numbered). can_be a.doing x.command) o true) at) ∙ h
+stands_at a c at h = sym (ap (λ (o : Option Numbered). option_map_or (λ (x : Numbered). can_be a.doing x.command) o (is_begun a.doing)) at) ∙ h
 
 stands_after : (o : Onward) (a : Actor) (c : Numbered) → slice_get a.script 0 ≡ Some c → Leads c.command o → CanBe a → CanBe (actor_after o a)
-stands_after (Goes seen d f) a c at h old = ap (λ (o : Option Numbered). option_map_or (λ (x : Numbered). can_be d x.command) o true) at ∙ h
+stands_after (Goes seen d f) a c at h old = ap (λ (o : Option Numbered). option_map_or (λ (x : Numbered). can_be d x.command) o (is_begun d)) at ∙ h
 stands_after (Ends seen x) a c at h old = begun_stands seen (drop 1 a.script)
 stands_after (Stays f) a c at h old = old
 

@@ -76,6 +76,7 @@ ring_does : (g : Guest) (r : RingSettings) (q : Queue) (m n : Contents) → Does
     → IsRing g r → IsRing g (record r { queue = q })
 ring_does g r q m n does order h = record {
   lists = lists_on r.lists r.queue.positions q.positions does.1 order h.lists;
+  begun = h.begun;
   size = subst (λ (l : Layout). IsQueueSize l.num) (sym does.0) h.size;
   good = λ backed. subst (λ (l : Layout). IsGoodFor l (covers g.memory.regions)) (sym does.0) (h.good backed);
 }

@@ -1,10 +1,9 @@
 -- What is true of whole runs, phase by phase.
-use Rattle.std.proofs.Common.{◌≡◌, ℕ, zero, suc, ◌+◌, ◌<◌, List, [], ◌∷◌, Bool, Option, Some, None, refl, sym, ap, ◌∙◌, subst, arith}
+use Rattle.std.proofs.Common.{◌≡◌, ℕ, zero, suc, ◌+◌, ◌<◌, List, [], ◌∷◌, Bool, Some, None, refl, sym, ap, ◌∙◌, subst, arith}
 use Rattle.std.specs.Prelude.{if◌then◌else◌, drop, slice_get}
 use Rattle.scen_text.specs.declared.scenario.Phase.{Phase}
 use Rattle.scen_text.specs.declared.scenario.Scenario.{Scenario}
 use Rattle.tap_world.specs.declared.event.Event.{Event}
-use Rattle.tap_world.specs.Then.{◌>>=◌}
 use Rattle.tap_world.specs.Commands.{AreScriptsSoFar, events_of}
 use Rattle.tap_world.specs.Setup.{Numbered, Setup, script_in, setup_of}
 use Rattle.tap_world.specs.World.{Actor, World, newest}
@@ -14,7 +13,7 @@ use Rattle.tap_world.specs.Effect.Onward.{Ends, Goes, Stays}
 use Rattle.tap_world.specs.Step.{step}
 use Rattle.tap_world.specs.Runs.{AreChosen, IsChosen, IsOrder, IsRun, actors_from, begins, has_ended, moved_on, opening, run, run_phases}
 use Rattle.tap_sound.specs.Laws.{AreScripted}
-use Rattle.tap_sound.proofs.Kit.{some_same, then_some}
+use Rattle.tap_sound.proofs.Kit.{some_same, some_then, then_some}
 use Rattle.tap_sound.proofs.Scripts.{all_done, all_so_far, effect_actors, ended_each, first_of_list, run_finishes, run_proceeds}
 use Rattle.tap_sound.proofs.Taken.{IsStep, each_with_nth, if_some, step_is, when_settled}
 
@@ -59,10 +58,6 @@ events_begin_scripts s number p es w v e actor lt =
     all_so_far (script_in p actor) (events_of actor es) (run_proceeds s es (begins number p w) v e actor _ (phase_actor number p w actor lt))
 
 -- ---- the run of a seed is a run
-
-some_then : {A B : Type 0} (o : Option A) (g : A → Option B) (x : A) (y : B) → o ≡ Some x → g x ≡ Some y → (o >>= g) ≡ Some y
-some_then None g x y e h = absurd (cc (e))
-some_then (Some z) g x y e h = ap g (some_same z x e) ∙ h
 
 chosen_runs : (s : Setup) (x : ℕ) (es : List Event) (w : World) (y : ℕ) (v : World) → IsChosen s x es w y v → run s es w ≡ Some v
 chosen_runs s x [] w y v h = ap Some (sym h.2)

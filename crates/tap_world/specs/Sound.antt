@@ -1,17 +1,21 @@
 -- This project's own: what holds in every world that a run can reach, in ten parts, each of what it names.
-use Rattle.std.specs.Prelude.{◌≡◌, ℕ, ◌+◌, ◌-◌, ◌^◌, ◌≤◌, ◌⊎◌, ◌==◌, ◌&&◌, max, Bool, true, false, List, [], ◌∷◌, slice_get, Some, None, is_some}
+use Rattle.std.specs.Prelude.{◌≡◌, ℕ, ◌+◌, ◌-◌, ◌^◌, ◌≤◌, ◌⊎◌, ◌==◌, ◌&&◌, max, Bool, true, false, List, [], ◌∷◌, slice_get, Some, None, Option}
 use Rattle.std.specs.Option.{option_map_or}
 use Rattle.std.specs.List.{AllByRecursion, list_any}
+use Rattle.tap_frame.specs.declared.name.Name.{Name}
+use Rattle.tap_frame.specs.Frame.{FrameValue}
 use Rattle.tap_ledger.specs.declared.fate.Fate.TheVariants as fate
 use Rattle.tap_steer.specs.Table.{Table, file_at}
 use Rattle.vring_turns.specs.declared.stage.RxStage.{RxStage}
 use Rattle.vring_turns.specs.declared.stage.RxStage.TheVariants as rx
+use Rattle.tap_world.specs.Then.{◌>>=◌}
 use Rattle.tap_world.specs.ByNumber.{at}
 use Rattle.tap_world.specs.Guests.{Vhost}
 use Rattle.tap_world.specs.Setup.{Setup}
 use Rattle.tap_world.specs.Line.{Entry, File, Standing, claimed, count, first_that, freed, in_batch, is_empty, is_kept}
 use Rattle.tap_world.specs.Line.Standing.{Batched, Claimed, Cut, Out, Ready}
 use Rattle.tap_world.specs.World.{Actor, Doing, World, current, newest, table}
+use Rattle.tap_world.specs.Stands.{same_name}
 use Rattle.tap_world.specs.World.Doing.{Backed, Backs, Changes, Disowned, Opened, Opens, Owns, Placed, Purges, Receives, Released, Resizes, Shrinks, Unbacked, Withdrawn, Withdraws}
 use Rattle.tap_world.specs.SoundActors.{CanBe}
 use Rattle.tap_world.specs.SoundNames.{NamesStandOnce}
@@ -112,20 +116,32 @@ has_in_hand (rx.Publish way) = false
 has_in_hand (rx.Ended way) = false
 has_in_hand stage = true
 
-abbrev pub is_receiving : ℕ → Doing → Bool
-is_receiving file (Receives other t) = other == file && has_in_hand t.stage
-is_receiving file doing = false
+-- the frame in hand has this name
+abbrev pub holds_name : Name → Option FrameValue → Bool
+holds_name n held = option_map_or (λ (x : FrameValue). same_name x.name n) held false
 
--- an actor is at a worker's receive turn on the file, with a frame in hand
-abbrev pub is_serving : ℕ → ℕ → Actor → Bool
-is_serving vhost file a = is_receiving file a.doing && is_about vhost 0 (current a.script)
+abbrev pub is_receiving : ℕ → Name → Doing → Bool
+is_receiving file n (Receives other t) = other == file && has_in_hand t.stage && holds_name n t.held
+is_receiving file n doing = false
 
--- A frame in hand is the batch's front, its worker owns the file, and that worker's receive turn is under way.
+-- an actor is at a worker's receive turn on the file, with this frame in hand
+abbrev pub is_serving : ℕ → ℕ → Name → Actor → Bool
+is_serving vhost file n a = is_receiving file n a.doing && is_about vhost 0 (current a.script)
+
+-- the name of the batch's front
+abbrev pub front_name : List Entry → Option Name
+front_name line = do
+  i ← first_that in_batch line
+  e ← slice_get line i
+  Some e.name
+
+-- A frame in hand is the batch's front, its worker owns the file, and that worker's receive turn is under way with this
+-- very frame.
 abbrev pub HandIsOwners : World → ℕ → File → Type 0
 HandIsOwners w file f =
     (vhost : ℕ) → f.hand ≡ Some vhost
-    → (f.owner ≡ Some vhost) × (is_some (first_that in_batch f.line) ≡ true)
-    × (list_any (is_serving vhost file) w.actors ≡ true)
+    → (f.owner ≡ Some vhost) × (n : Name) × (front_name f.line ≡ Some n)
+    × (list_any (is_serving vhost file n) w.actors ≡ true)
 
 -- ---- 9: versions
 

@@ -112,6 +112,11 @@ can_be (Transmits file t chains) c = is_tx_turn c
 can_be (Given file t chains frame) c = is_tx_turn c
 can_be (Teaches file t chains frame) c = is_tx_turn c
 
--- an actor has come as far as its command can
+-- an actor has begun no command
+abbrev pub is_begun : Doing → Bool
+is_begun Begun = true
+is_begun doing = false
+
+-- An actor has come as far as its command can, and one without a command has begun none.
 abbrev pub CanBe : Actor → Type 0
-CanBe a = option_map_or (λ (c : Numbered). can_be a.doing c.command) (current a.script) true ≡ true
+CanBe a = option_map_or (λ (c : Numbered). can_be a.doing c.command) (current a.script) (is_begun a.doing) ≡ true

@@ -17,9 +17,11 @@ use Rattle.tap_world.specs.World.Doing.{Backed, Backs, Disowned, Given, Owns, Re
 
 -- ---- 8: rings
 
--- The lists of positions are in order; the ring has a queue size; with a backend it lies in its guest.
+-- The lists of positions are in order, and begin with the first chain that was published; the ring has a queue size;
+-- with a backend it lies in its guest.
 pub record IsRing (g : Guest) (r : RingSettings) : Type 0 where
   pub lists : AreInOrder r.lists r.queue.positions
+  pub begun : option_map_or (λ (l : ℕ × ℕ). l.1 == 0) (slice_get r.lists 0) false ≡ true
   pub size : IsQueueSize r.queue.layout.num
   pub good : is_some r.file ≡ true → IsGood r.queue g.memory
 
