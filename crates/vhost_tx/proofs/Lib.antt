@@ -2,3 +2,4 @@ mod Lies
 mod Told
 mod Steady
 mod Gathered
+mod Judging

@@ -1,11 +1,11 @@
 //! The bytes of a chain.
-ghost use Rattle.std.specs.Prelude.{◌≡◌, ◌↔◌, ℕ, ◌+◌, ◌≤◌, min, List, ◌++◌, take, drop, length, IfOk, IsTrue, All};
+ghost use Rattle.std.specs.Prelude.{◌≡◌, ◌↔◌, ℕ, ◌+◌, ◌≤◌, min, List, ◌++◌, take, drop, length, None, Some, IfOk, OnOk, IfErr, IsTrue, All};
 ghost use Rattle.guest_mem.specs.Memory.{covers, bytes_from};
 ghost use Rattle.vring_walk.specs.Spread.{first_gathered};
 ghost use Rattle.vring_turns.specs.Ring.{bytes_in};
 ghost use Rattle.tap_frame.specs.Spelling.{first_case, header_in, behind_header};
 ghost use Rattle.tap_frame.specs.Text.{least_room};
-ghost use Rattle.vring_turns.specs.TransmitBytes.{is_header_size, shape_of as front_of, refusal_of};
+ghost use Rattle.vring_turns.specs.TransmitBytes.{is_header_size, shape_of as front_of, refusal_of, frame_of};
 ghost use Rattle.vhost_tx.specs.Copying.{IsJudged};
 
 use guest_mem::{Memory, byte_laws, range_laws};
@@ -103,13 +103,24 @@ fn bytes_behind(
     Ok(bytes)
 }
 
-// The frame that bytes spell under a name, or why they spell none, where its header stands apart.
-fn judge_parts(hdr: u16, name: Name, front: &[u8], ether: Vec<u8>) -> Judged
+// The frame that bytes spell under a name, or why they spell none, where its header stands apart. It takes
+// no memory.
+fn judge_parts(hdr: u16, name: Name, front: &[u8], ether: Vec<u8>) -> Result<Frame, BadFrame>
     requires size { IsTrue (is_header_size hdr) }
     requires front { front.now ≡ take hdr (front.now ++ ether.items) }
-    ensures { IsJudged hdr name (front.now ++ ether.items) result }
+    ensures accepted { OnOk result (refusal_of hdr (front.now ++ ether.items) ≡ None) }
+    ensures frame { IfOk result (λ frame. frame ≡ frame_of hdr name (front.now ++ ether.items)) }
+    ensures refused { IfErr result (λ bad. refusal_of hdr (front.now ++ ether.items) ≡ Some bad) }
 {
-    match read_parts(shape_of(hdr), name, front, ether) {
+    read_parts(shape_of(hdr), name, front, ether)
+}
+
+// The same, as what the bytes of a chain are.
+fn as_judged(made: Result<Frame, BadFrame>) -> Judged
+    ensures accepted { IfOk made (λ frame. result ≡ Judged.Accepted frame) }
+    ensures refused { IfErr made (λ bad. result ≡ Judged.Refused bad) }
+{
+    match made {
         Ok(frame) => Judged::Accepted(frame),
         Err(bad) => Judged::Refused(bad),
     }
@@ -135,7 +146,7 @@ fn judge(
     let front = &mut header[..size];
     gather_behind(mem, segments, 0, front);
     match bytes_behind(alloc, mem, segments, size, count - size) {
-        Ok(ether) => judge_parts(hdr, name, front, ether),
+        Ok(ether) => as_judged(judge_parts(hdr, name, front, ether)),
         Err(_) => Judged::NoMemory,
     }
 }
