@@ -1,0 +1,6 @@
+pub mod Packed
+pub mod Chain
+pub mod Fetched
+pub mod Walk
+pub mod Publication
+pub mod Examples
