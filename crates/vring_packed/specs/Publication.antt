@@ -1,5 +1,5 @@
 -- VIRTIO 1.2, 2.8.9, 2.8.10 and 2.8.21: what a device reads and writes to publish chains and to tell of notices.
-use Rattle.std.specs.Prelude.{ℕ, zero, suc, ◌+◌, ◌*◌, ◌%◌, Bool, true, false, ◌&&◌, ◌||◌, not, ◌==◌, nat_le, bit_and, bit_or, List, [], ◌∷◌, ◌++◌, sum_by, if◌then◌else◌}
+use Rattle.std.specs.Prelude.{ℕ, zero, suc, ◌+◌, ◌-◌, ◌*◌, ◌%◌, Bool, true, false, ◌&&◌, ◌||◌, not, ◌==◌, nat_le, bit_and, bit_or, List, [], ◌∷◌, ◌++◌, if◌then◌else◌}
 use Rattle.std.specs.Int.{w16, w32, to_le_bytes}
 use Rattle.guest_mem.specs.Memory.{Contents, written}
 use Rattle.vhost_queue.specs.Publication.{field_at, with_field}
@@ -34,7 +34,8 @@ place_behind num p (d ∷ ds) = place_behind num (place_after num p d.count) ds
 
 -- how many places a publication passes
 abbrev pub passed : List PackedDone → ℕ
-passed ds = sum_by (λ d. d.count) ds
+passed [] = 0
+passed (d ∷ ds) = d.count + passed ds
 
 -- Notices.
 
@@ -45,6 +46,16 @@ is_same p q = p.at == q.at && (if p.wrap then q.wrap else not q.wrap)
 abbrev pub is_among : ℕ → Place → ℕ → Place → Bool
 is_among num p zero q = false
 is_among num p (suc n) q = is_same p q || is_among num (place_after num p 1) n q
+
+-- how many places an entry is ahead of another with the same wrap counter
+abbrev pub ahead_in : ℕ → ℕ → ℕ → ℕ
+ahead_in num at to = if nat_le at to then to - at else to + 2 * num - at
+
+-- how many places a place is ahead of another, where the places of both wrap counters make one round
+abbrev pub places_ahead : ℕ → Place → Place → ℕ
+places_ahead num p q =
+    if p.wrap then (if q.wrap then ahead_in num p.at q.at else q.at + num - p.at)
+    else (if q.wrap then q.at + num - p.at else ahead_in num p.at q.at)
 
 -- 2.8.10: the place that the first field of an event suppression area names: bit 15 is its wrap counter
 abbrev pub named_place : ℕ → Place
