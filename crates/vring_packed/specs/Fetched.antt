@@ -1,5 +1,5 @@
 -- VIRTIO 1.2, 2.8.14: what a device finds at a place of a packed ring, as a function of the memory.
-use Rattle.std.specs.Prelude.{◌≡◌, ℕ, ◌+◌, ◌-◌, nat_le, List, [], ◌∷◌, ◌++◌, length, Ok, Err, if◌then◌else◌}
+use Rattle.std.specs.Prelude.{◌≡◌, ℕ, ◌+◌, ◌-◌, ◌≤◌, nat_le, List, [], ◌∷◌, ◌++◌, length, Ok, Err, if◌then◌else◌}
 use Rattle.vring_split.specs.declared.fault.RingFault.{RingFault}
 use Rattle.vring_split.specs.declared.fault.RingFault.TheVariants.{TooLong}
 use Rattle.vring_split.specs.declared.segment.Segment.{Segment}
@@ -56,3 +56,10 @@ abbrev pub AppendsFetched : Look → Cover → PackedLayout → Place → List S
 AppendsFetched look covers l p old answer new =
     (answer ≡ (fetched look covers l p (1024 - length old)).0)
     × (new ≡ old ++ (fetched look covers l p (1024 - length old)).1)
+
+-- a chain that was found has no more descriptors in the ring than the ring
+abbrev pub FitsRing : PackedLayout → PackedFetched → Type 0
+FitsRing l (Chain id count) = count ≤ l.num
+FitsRing l Nothing = Unit {0}
+FitsRing l (Bad fault) = Unit {0}
+FitsRing l Crowded = Unit {0}

@@ -2,7 +2,7 @@
 ghost use Rattle.std.specs.Prelude.{◌≡◌, ◌<◌, ◌≤◌, ◌-◌, ◌++◌, [], length, IfOk};
 ghost use Rattle.guest_mem.specs.Memory.{byte_at, covers};
 ghost use Rattle.vring_packed.specs.Packed.{IsGoodFor};
-ghost use Rattle.vring_packed.specs.Fetched.{AppendsFetched, AppendsChain};
+ghost use Rattle.vring_packed.specs.Fetched.{AppendsFetched, AppendsChain, FitsRing};
 
 use crate::layout::PackedLayout;
 use crate::place::Place;
@@ -80,7 +80,8 @@ impl Segments {
     fn take_chain(&mut self, mem: &Memory, ring: &PackedLayout, at: u16) -> PackedFetched
         requires good { IsGoodFor ring.now (covers mem.now.regions) }
         requires inside { at < ring.now.num }
-        ensures { AppendsChain (byte_at mem.now) (covers mem.now.regions) ring.now at self.old result self.new }
+        ensures answer { AppendsChain (byte_at mem.now) (covers mem.now.regions) ring.now at self.old result self.new }
+        ensures few { FitsRing ring.now result }
     {
         self.followed.clear();
         match walk(mem, ring, at, &mut self.followed) {
@@ -111,7 +112,8 @@ impl Segments {
 pub fn fetch(mem: &Memory, ring: &PackedLayout, place: Place, room: &mut Segments) -> PackedFetched
     requires good { IsGoodFor ring.now (covers mem.now.regions) }
     requires inside { place.at < ring.now.num }
-    ensures { AppendsFetched (byte_at mem.now) (covers mem.now.regions) ring.now place room.old result room.new }
+    ensures answer { AppendsFetched (byte_at mem.now) (covers mem.now.regions) ring.now place room.old result room.new }
+    ensures few { FitsRing ring.now result }
 {
     if desc_at(mem, ring.ring, ring.num, place.at).is_available(place.wrap) {
         room.take_chain(mem, ring, place.at)

@@ -10,10 +10,12 @@
 //! `specs/Publication.antt` which bytes a publication writes, and when the driver wants a notice.
 #![tactic(auto)]
 
+mod chain;
 mod desc;
 mod done;
 mod fetched;
 mod fields;
+mod journal;
 mod layout;
 mod laws;
 mod place;
@@ -22,8 +24,10 @@ mod publish;
 mod read;
 mod rules;
 mod segments;
+mod vq;
 mod walk;
 
+pub use crate::chain::PackedChain;
 pub use crate::desc::PackedDesc;
 pub use crate::done::PackedDone;
 pub use crate::layout::PackedLayout;
@@ -32,4 +36,5 @@ pub use crate::place::Place;
 pub use crate::notices::{set_notices, wants_notice};
 pub use crate::publish::{passed, publish_at};
 pub use crate::fetched::{PackedFetched, Segments, fetch};
+pub use crate::vq::PackedVq;
 pub use vring_split::{RingFault, Segment};

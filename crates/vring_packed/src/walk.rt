@@ -1,5 +1,5 @@
 //! The walk along a chain.
-ghost use Rattle.std.specs.Prelude.{◌≡◌, ◌<◌, [], IsTrue, Ok, Err, OnOk, IfErr};
+ghost use Rattle.std.specs.Prelude.{◌≡◌, ◌<◌, ◌≤◌, [], Ok, Err, None, IfOk, OnOk, IfErr};
 ghost use Rattle.guest_mem.specs.Memory.{byte_at, covers};
 ghost use Rattle.vring_walk.specs.Chain.{first_broken};
 ghost use Rattle.vring_packed.specs.Packed.{IsGoodFor};
@@ -98,7 +98,8 @@ pub fn walk(
     requires good { IsGoodFor ring.now (covers mem.now.regions) }
     requires inside { at < ring.now.num }
     requires none { met.old ≡ [] }
-    ensures { Finds (byte_at mem.now) (covers mem.now.regions) ring.now at result met.new }
+    ensures found { Finds (byte_at mem.now) (covers mem.now.regions) ring.now at result met.new }
+    ensures few { IfOk result (λ f. f.count ≤ ring.now.num) }
 {
     let mut at = at;
     for seen in 0..ring.num {

@@ -21,15 +21,15 @@ loop-seen-init c = record {
     all : (n : ℕ) → n - 0 ≡ n
     all n = omega arith
 
-pub returns-in_err-take_desc : goal.returns-in_err-take_desc
-returns-in_err-take_desc c =
+pub returns-in_err-take_desc-clause-found : goal.returns-in_err-take_desc-clause-found
+returns-in_err-take_desc-clause-found c =
     let fails : chain_from (byte_at c.args.mem.now) (covers c.args.mem.now.regions) c.args.ring.now c.args.at ≡ Breaks c.in_err-take_desc.field-0.0 =
     ring_fails (byte_at c.args.mem.now) (covers c.args.mem.now.regions) c.args.ring.now c.loop-seen.at c.loop-seen.seen c.desc_at-desc.result c.loop-seen.met _ c.loop-seen-test.true c.desc_at-desc.ensures c.loop-seen.invariant.left _ c.in_err-take_desc.ensures.fault in
     let told : c.from_residual.result ≡ Err c.in_err-take_desc.field-0.0 = search rules in
     fails ∙ ap (λ r. end_found r c.take_desc.new.met) (sym told)
 
-pub returns-then-not-has_next : goal.returns-then-not-has_next
-returns-then-not-has_next c =
+pub returns-then-not-has_next-clause-found : goal.returns-then-not-has_next-clause-found
+returns-then-not-has_next-clause-found c =
     let last : has_next c.desc_at-desc.result ≡ false = let e : c.has_next.result ≡ false = search rules in sym c.has_next.ensures ∙ e in
     ring_ends (byte_at c.args.mem.now) (covers c.args.mem.now.regions) c.args.ring.now c.loop-seen.at c.loop-seen.seen c.desc_at-desc.result c.loop-seen.met _ c.loop-seen-test.true c.desc_at-desc.ensures c.loop-seen.invariant.left _ c.in_ok-take_desc.ensures.taken last
 
@@ -43,7 +43,7 @@ loop-seen-preserved c =
       inside = c.entry_after-at.ensures.inside;
     }
 
-pub returns : goal.returns
-returns c =
+pub returns-clause-found : goal.returns-clause-found
+returns-clause-found c =
     sym c.loop-seen.invariant.left
     ∙ ring_over (byte_at c.args.mem.now) (covers c.args.mem.now.regions) c.args.ring.now c.loop-seen.at c.loop-seen.seen c.loop-seen.met (let h = c.loop-seen-test.false in omega arith)
