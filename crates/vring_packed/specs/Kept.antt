@@ -26,7 +26,7 @@ pub record IsKept (v : Inside) : Type 0 where
   pub most : v.layout.num ≤ 32768
   pub next : v.next.at < v.layout.num
   pub used : v.used.at < v.layout.num
-  pub fetched : IfSome v.fetched (λ c. c.count ≤ v.layout.num)
+  pub fetched : IfSome v.fetched (λ c. (c.count ≤ v.layout.num) × (c.place.at < v.layout.num))
   pub served : All (λ c. (c.count ≤ v.layout.num) × (c.place.at < v.layout.num)) v.served.items
   pub done : All (λ d. d.count ≤ v.layout.num) v.done.items
   pub served_most : deque_len v.served ≤ most_gathered
