@@ -1,4 +1,5 @@
 pub mod Bytes
 pub mod Steps
+pub mod Ends
 pub mod Among
 pub mod Queues

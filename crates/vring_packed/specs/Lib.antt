@@ -2,6 +2,7 @@ pub mod Packed
 pub mod Chain
 pub mod Fetched
 pub mod Walk
+pub mod Paths
 pub mod Publication
 pub mod Queue
 pub mod Kept
