@@ -3,3 +3,4 @@ pub mod Steps
 pub mod Ends
 pub mod Among
 pub mod Queues
+pub mod Runs

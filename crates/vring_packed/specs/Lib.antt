@@ -5,5 +5,6 @@ pub mod Walk
 pub mod Paths
 pub mod Publication
 pub mod Queue
+pub mod Calls
 pub mod Kept
 pub mod Examples

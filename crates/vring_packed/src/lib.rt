@@ -31,7 +31,7 @@ pub use crate::chain::PackedChain;
 pub use crate::desc::PackedDesc;
 pub use crate::done::PackedDone;
 pub use crate::layout::PackedLayout;
-pub use crate::laws::{fetches_as_function, worked_examples};
+pub use crate::laws::{each_is_once, fetches_as_function, worked_examples};
 pub use crate::place::Place;
 pub use crate::notices::{set_notices, wants_notice};
 pub use crate::publish::{passed, publish_at};
