@@ -39,19 +39,22 @@ module _ (look : Look) (covers : Cover) (l : PackedLayout) where
   before seen d ds met now (Gives id count segments) h more x =
       let c = x.1 in
       let count_is = c.count_is in
-      let sum = x.2 in
-      (x.0 + 1, record {
-        front = d ∷ c.front;
-        last = c.last;
-        behind = c.behind;
-        before = c.before;
-        along = ap (λ (es : List PackedDesc). d ∷ es) c.along;
-        on = (now, h, more, c.on);
-        good = c.good;
-        ends = c.ends;
-        id_is = c.id_is;
-        count_is = omega arith;
-      }, omega arith)
+      let sum = x.2 in (
+        x.0 + 1,
+        record {
+          front = d ∷ c.front;
+          last = c.last;
+          behind = c.behind;
+          before = c.before;
+          along = ap (λ (es : List PackedDesc). d ∷ es) c.along;
+          on = (now, h, more, c.on);
+          good = c.good;
+          ends = c.ends;
+          id_is = c.id_is;
+          count_is = omega arith;
+        },
+        omega arith,
+      )
 
   -- a descriptor, where the same is known of what comes after it
   first_so : (d : PackedDesc) (ds : List PackedDesc) (seen : ℕ) (met : List Segment)

@@ -27,12 +27,12 @@ along_more look l at seen h =
 pub entry_taken : (covers : Cover) (l : PackedLayout) (d : PackedDesc) (ds : List PackedDesc) (met now : List Segment)
     → with_segment covers l d met ≡ Ok now → with_entries covers l (d ∷ ds) met ≡ with_entries covers l ds now
 entry_taken covers l d ds met now h =
-    ap (λ (r : Result (List Segment) RingFault). elim r as (λ _. Result (List Segment) RingFault) [ | Err fault ↦ Err fault | Ok now ↦ with_entries covers l ds now ]) h
+    ap (λ (r : Result (List Segment) RingFault). elim r as (λ _. Result (List Segment) RingFault) [ Err fault ↦ Err fault | Ok now ↦ with_entries covers l ds now ]) h
 
 pub entry_fails : (covers : Cover) (l : PackedLayout) (d : PackedDesc) (ds : List PackedDesc) (met : List Segment) (f : RingFault)
     → with_segment covers l d met ≡ Err f → with_entries covers l (d ∷ ds) met ≡ Err f
 entry_fails covers l d ds met f h =
-    ap (λ (r : Result (List Segment) RingFault). elim r as (λ _. Result (List Segment) RingFault) [ | Err fault ↦ Err fault | Ok now ↦ with_entries covers l ds now ]) h
+    ap (λ (r : Result (List Segment) RingFault). elim r as (λ _. Result (List Segment) RingFault) [ Err fault ↦ Err fault | Ok now ↦ with_entries covers l ds now ]) h
 
 -- an entry of a table was looked at, from which on what is left makes the whole
 module _ (look : Look) (covers : Cover) (l : PackedLayout) (table index entries : ℕ) (d : PackedDesc) (met : List Segment) (whole : Result (List Segment) RingFault)
@@ -58,7 +58,7 @@ module _ (look : Look) (covers : Cover) (l : PackedLayout) (seen : ℕ) (d : Pac
   unfolding chain_end goes_on
   step = by_result (with_desc look covers l d met)
     where
-      by_result : (r : Result (List Segment) RingFault) → (elim r as (λ _. ChainEnd) [ | Err fault ↦ Breaks fault | Ok now ↦ cond (has_next d) (chain_end look covers l (seen + 1) ds now) (Gives d.id (seen + 1) now) ]) ≡ goes_on r
+      by_result : (r : Result (List Segment) RingFault) → (elim r as (λ _. ChainEnd) [ Err fault ↦ Breaks fault | Ok now ↦ cond (has_next d) (chain_end look covers l (seen + 1) ds now) (Gives d.id (seen + 1) now) ]) ≡ goes_on r
       by_result (Err fault) = λ i. Breaks fault
       by_result (Ok now) = λ i. cond (has_next d) (chain_end look covers l (seen + 1) ds now) (Gives d.id (seen + 1) now)
 
