@@ -1,5 +1,5 @@
 -- How many places are left for chains that are done.
-use Rattle.std.proofs.Common.{◌≡◌, ℕ, ◌+◌, ◌-◌, ◌<◌, ◌≤◌, List, length, map, min, arith}
+use Rattle.std.proofs.Common.{◌≡◌, ℕ, ◌-◌, ◌<◌, List, length, map, min, arith}
 use Rattle.std.proofs.lemmas.List.{length-map}
 use Rattle.vhost_queue.specs.Queue.{most_done}
 use Rattle.vring_packed.specs.declared.done.PackedDone.{PackedDone}

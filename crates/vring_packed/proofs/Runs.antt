@@ -1,14 +1,13 @@
 -- Each chain is published once, for every list of calls.
 use Rattle.std.proofs.Common.{◌≡◌, ℕ, zero, suc, ◌+◌, ◌-◌, ◌^◌, ◌<◌, ◌≤◌, List, [], ◌∷◌, ◌++◌, length, map, take, drop, Option, None, Some, IsSome, refl, sym, ap, ◌∙◌, subst, arith, append_assoc, length-append, length-take}
-use Rattle.std.proofs.lemmas.List.{length-map, map-append, append-nil}
-use Rattle.vhost_queue.specs.declared.done.Done.{Done}
-use Rattle.vhost_queue.specs.Positions.{Positions, Published, IsInOrder, after, before, first_done, positions_from, published_from, served, rewound, with_done, all_published}
+use Rattle.std.proofs.lemmas.List.{length-map, map-append}
+use Rattle.vhost_queue.specs.Positions.{Positions, Published, IsInOrder, after, before, first_done, positions_from, published_from, with_done}
 use Rattle.vhost_queue.specs.Queue.{most_gathered, most_done, room_in}
 use Rattle.vhost_queue.specs.Laws.{ServesInOrder, RewindsInOrder, DoneInOrder, PublishedInOrder}
 use Rattle.vring_packed.specs.declared.chain.PackedChain.{PackedChain}
 use Rattle.vring_packed.specs.declared.done.PackedDone.{PackedDone}
 use Rattle.vring_packed.specs.declared.layout.PackedLayout.{PackedLayout}
-use Rattle.vring_packed.specs.Queue.{PackedQueue, first_queue, done_of, lists_of, with_fetched, with_served, with_rewound, with_finished, with_published, IsEarliest}
+use Rattle.vring_packed.specs.Queue.{PackedQueue, first_queue, done_of, lists_of, with_served, with_rewound, with_finished, with_published, IsEarliest}
 use Rattle.vring_packed.specs.Calls.{Call, Fetch, Serve, Rewind, Finish, Publish, Ready, made_by, MayCall, id_in, kept_by, made_by_all, kept_by_all, MayCallAll, AreOnce, EachIsOnce}
 use Rattle.vring_packed.proofs.Queues.{room_left}
 

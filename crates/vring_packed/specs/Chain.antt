@@ -1,10 +1,10 @@
 -- VIRTIO 1.2, 2.8.6 to 2.8.8: a packed ring's descriptor chains, as lists of descriptors over the bytes of a memory.
 -- The 1,024 segments, the 16,384 bytes of a table, the direction by the kind of ring and the order of the rules are
 -- this project's own.
-use Rattle.std.specs.Prelude.{ℕ, zero, suc, ◌+◌, ◌*◌, ◌/◌, Bool, not, ◌&&◌, nat_le, List, [], ◌∷◌, ◌++◌, length, Option, None, Some, Result, Ok, Err, if◌then◌else◌}
+use Rattle.std.specs.Prelude.{ℕ, zero, suc, ◌+◌, ◌*◌, ◌/◌, Bool, not, ◌&&◌, nat_le, List, [], ◌∷◌, ◌++◌, length, None, Some, Result, Ok, Err, if◌then◌else◌}
 use Rattle.guest_mem.specs.Memory.{bytes_at}
 use Rattle.vring_split.specs.declared.fault.RingFault.{RingFault}
-use Rattle.vring_split.specs.declared.fault.RingFault.TheVariants.{TooLong, IndirectNext, IndirectLength, Unmapped, Order, Direction, TooManySegments, IndirectOff}
+use Rattle.vring_split.specs.declared.fault.RingFault.TheVariants.{IndirectNext, IndirectLength, Unmapped, Order, Direction, TooManySegments, IndirectOff}
 use Rattle.vring_split.specs.declared.segment.Segment.{Segment}
 use Rattle.vring_walk.specs.Chain.{Look, Cover, any_writable, is_bad_length, first_broken}
 use Rattle.vring_packed.specs.declared.desc.PackedDesc.{PackedDesc}
