@@ -15,14 +15,17 @@ const RING: PackedLayout = PackedLayout {
 };
 
 // A driver makes a descriptor available: where, with which id, and with which flags.
-fn post(mem: &mut Memory, at: u64, id: u16, flags: u16) -> Result<(), Fail> {
+fn post(mem: &mut Memory, at: u16, id: u16, flags: u16) -> Result<(), Fail> {
     let desc = PackedDesc {
         addr: 4096,
         len: 1,
         id,
         flags,
     };
-    Ok(mem.write(16 * at, &desc.bytes()).map_err(|_| "there")?)
+    Ok(
+        mem.write(16 * u64::from(at), &desc.bytes())
+            .map_err(|_| "there")?,
+    )
 }
 
 // Serves and publishes the chain at the next place: its id, or none.
