@@ -1,0 +1,6 @@
+pub mod Bytes
+pub mod Steps
+pub mod Ends
+pub mod Among
+pub mod Queues
+pub mod Runs

@@ -1,0 +1,10 @@
+pub mod Packed
+pub mod Chain
+pub mod Fetched
+pub mod Walk
+pub mod Paths
+pub mod Publication
+pub mod Queue
+pub mod Calls
+pub mod Kept
+pub mod Examples

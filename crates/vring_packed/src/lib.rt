@@ -1,0 +1,43 @@
+//! The packed virtqueue, after VIRTIO 1.2, 2.8, in this project's own profile.
+//!
+//! A `PackedLayout` says where a packed ring and its two event suppression areas lie, and a `Place` is
+//! an entry of the ring with its wrap counter. `fetch` takes the chain that is available at a place, or
+//! tells the first rule that the ring breaks; `publish_at`, `wants_notice` and `set_notices` are what a
+//! device writes to publish chains, and what it reads and writes about notices.
+//!
+//! `specs/Packed.antt` has the picture: places, descriptors and their flags. `specs/Chain.antt` has the
+//! rules for a descriptor, `specs/Fetched.antt` what a fetch finds, as functions of the memory, and
+//! `specs/Publication.antt` which bytes a publication writes, and when the driver wants a notice.
+#![tactic(auto)]
+
+mod chain;
+mod desc;
+mod done;
+mod fetched;
+mod fields;
+mod journal;
+mod laws;
+mod layout;
+mod notices;
+mod place;
+mod publish;
+mod read;
+mod rules;
+mod segments;
+mod vq;
+mod walk;
+
+pub use crate::chain::PackedChain;
+pub use crate::desc::PackedDesc;
+pub use crate::done::PackedDone;
+pub use crate::fetched::{PackedFetched, Segments, fetch};
+pub use crate::laws::{each_is_once, fetches_as_function, worked_examples};
+pub use crate::layout::PackedLayout;
+pub use crate::notices::{set_notices, wants_notice};
+pub use crate::place::Place;
+pub use crate::publish::{passed, publish_at};
+pub use crate::vq::PackedVq;
+pub use vring_split::{RingFault, Segment};
+
+#[cfg(test)]
+mod tests;
