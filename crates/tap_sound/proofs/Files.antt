@@ -118,7 +118,7 @@ course (Owned owner) f g e =
     let o = only_some _ _ g e in
     Rests (ap (λ (x : File). x.line) (sym o.1)) (ap (λ (x : File). x.first) (sym o.1)) (ap (λ (x : File). x.epoch) (sym o.1)) (ap (λ (x : File). x.capacity) (sym o.1))
 
--- ---- part 4: epochs
+-- ---- epochs
 
 kept_before : (line : List Entry) (i : ℕ) (s : Standing) (e : Entry) → Restands line i s → slice_get line i ≡ Some e → is_kept s ≡ true → is_kept e.stands ≡ true
 kept_before line i Ready e (Put d actor at is) here k = ap (λ (x : Entry). is_kept x.stands) (some_same e d (sym here ∙ at)) ∙ ap is_kept is
@@ -169,7 +169,7 @@ course_epochs f g (Rests line first epoch capacity) h = record {
       (subst (λ (n : ℕ). AllByRecursion (λ (e : Entry). is_kept e.stands ≡ true → e.epoch ≡ n) f.line) (sym epoch) h.kept);
 }
 
--- ---- part 2: what a line has room for
+-- ---- lines in order
 
 batch_shift : (line : List Entry) (i : ℕ) (s : Standing) → Restands line i s → (s ≡ Batched → count in_batch line < 64) → count in_batch line ≤ 64
     → count in_batch (restand i s line) ≤ 64
@@ -252,7 +252,7 @@ course_ordered f g (Rests line first epoch capacity) h = record {
   places = subst (λ (n : ℕ). n ≤ 2 ^ 40 - 1) (ap (λ (n : ℕ). n + length f.line) (sym first) ∙ ap (λ (l : List Entry). g.first + length l) (sym line)) h.places;
 }
 
--- ---- part 2: room
+-- ---- room
 
 fates_shift : (line : List Entry) (i : ℕ) (s : Standing) → has_left s ≡ true → AllByRecursion (λ (e : Entry). has_left e.stands ≡ true) line
     → AllByRecursion (λ (e : Entry). has_left e.stands ≡ true) (restand i s line)
@@ -281,7 +281,7 @@ free_filled : (n : ℕ) (line : List Entry) → count free line ≤ count free (
 free_filled n line = filled_keeps (λ (l : List Entry). count free line ≤ count free l)
     (λ l i front le. let m = free_shift l i Batched (Move front) in omega (arith, m, le)) n line (omega arith)
 
--- what part 2 wants of a course: an entry that leaves has a fate, and the capacity stays
+-- what room wants of a course: an entry that leaves has a fate, and the capacity stays
 abbrev pub IsFair : {f g : File} → Course f g → Type 0
 IsFair (Shifts i s hand how room is) = has_left s ≡ true
 IsFair (Resizes capacity is) = ⊥

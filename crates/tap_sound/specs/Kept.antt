@@ -49,7 +49,8 @@ RoomIsKept =
     → EachActor w (HasSeen w) → EachFile w (λ file f. HasRoom (capacity_before file (table s w)) f)
     → EachFile u.0 (λ file f. HasRoom (capacity_before file (table s u.0)) f)
 
--- Every event keeps that each command has come as far as it can, and no further.
+-- Every event keeps that each command has come as far as it can and no further, and that an actor without one has begun
+-- none.
 abbrev pub StandsAreKept : Type 0
 StandsAreKept =
     (s : Setup) (w : World) (e : Event) (u : World × Heard) → step s w e ≡ Some u

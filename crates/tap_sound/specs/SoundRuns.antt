@@ -17,7 +17,8 @@ HasGuests s = (vhost guest : ℕ) → at s.vhosts vhost ≡ Some guest → is_so
 -- one that it ends in.
 abbrev pub ReachedIsSound : Type 0
 ReachedIsSound =
-    (s : Scenario) (w : World) → HasPlaces (setup_of s) → HasGuests (setup_of s) → IsReached s w → IsSound (setup_of s) w
+    (s : Scenario) (w : World) → HasPlaces (setup_of s) → HasGuests (setup_of s) → IsReached s w
+    → IsSound (setup_of s) w
 
 abbrev pub RunIsSound : Type 0
 RunIsSound =

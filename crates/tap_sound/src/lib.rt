@@ -2,10 +2,10 @@
 //!
 //! `specs/Laws.antt` says that a run's events are the scripts of its commands, and that nothing is left undone;
 //! `specs/Kept.antt`, `specs/Names.antt`, `specs/Hand.antt`, `specs/Room.antt`, `specs/Held.antt`,
-//! `specs/Tabled.antt` and `specs/Served.antt` what each event keeps of what is sound, and `specs/Soundness.antt`
-//! which of them keep all of it; `specs/Reached.antt` and `specs/Worlds.antt` what therefore holds in every world
-//! of a run; `specs/Fresh.antt` that events have new names; `specs/Used.antt` what a trace tells of published
-//! chains. The proofs begin with `proofs/Kit.antt` and `proofs/Taken.antt`, which take a step apart.
+//! `specs/Tabled.antt` and `specs/Served.antt` what each event keeps of what is sound, and `specs/Soundness.antt` that
+//! every event keeps all of it; `specs/SoundRuns.antt`, `specs/Reached.antt` and `specs/Worlds.antt` what therefore
+//! holds in every world of a run; `specs/Fresh.antt` that events have new names; `specs/Used.antt` what a trace tells
+//! of published chains. The proofs begin with `proofs/Kit.antt` and `proofs/Taken.antt`, which take a step apart.
 #![tactic(auto)]
 
 ghost use Rattle.tap_sound.specs.Fresh.{NamesAreNew};
@@ -46,7 +46,8 @@ pub fn lines_are_kept()
     ensures parts { LinesAreKept }
 {}
 
-/// Every event but the two that change a capacity keeps room in each line.
+/// Every event but the two that change a capacity keeps room in each line, where no actor has seen more versions than
+/// there are.
 pub fn room_is_kept()
     ensures { RoomIsKept }
 {}
@@ -61,7 +62,7 @@ pub fn used_is_counted()
     ensures { UsedIsCounted }
 {}
 
-/// Every event keeps that each command has come no further than it can.
+/// Every event keeps that each command has come no further than it can, and that an actor without one has begun none.
 pub fn stands_are_kept()
     ensures { StandsAreKept }
 {}
@@ -76,17 +77,20 @@ pub fn shut_is_kept()
     ensures { ShutIsKept }
 {}
 
-/// Every event keeps that the writer and the rings' turns are held exactly by the commands that hold them.
+/// Every event keeps that the writer and the rings' turns are held exactly by the commands that hold them, where each
+/// command has come no further than it can.
 pub fn holders_are_kept()
     ensures { HoldersAreKept }
 {}
 
-/// Every event keeps what files and rings have of the queue table, but for the command that holds the writer.
+/// Every event keeps what files and rings have of the queue table, but for the command that holds the writer, where
+/// each command has come no further than it can and the writer is held by the command that holds it.
 pub fn table_is_kept()
     ensures { TableIsKept }
 {}
 
-/// Every event keeps that the rings of vhosts are in order, and stand with the turns that serve them.
+/// Every event keeps that the rings of vhosts are in order, and stand with the turns that serve them, where each
+/// command has come no further than it can and turns are held by the commands that hold them.
 pub fn rings_are_kept()
     ensures { RingsAreKept }
 {
@@ -96,7 +100,8 @@ pub fn rings_are_kept()
     vhost_dev::lists_stay_in_order();
 }
 
-/// So these parts of soundness hold in each world that a run ends in, and in each world on the way.
+/// Epochs, the order of lines, claims, shut gates, versions seen and how far commands have come hold in each world that
+/// a run ends in or reaches, where declared first places are at most 2^40 - 1.
 pub fn run_is_kept()
     ensures whole { RunIsKept }
     ensures phase { PhaseIsKept }
@@ -111,19 +116,21 @@ pub fn names_stand_once()
     ensures ended { NamesStandAfterRuns }
 {}
 
-/// Every event keeps room in each line, also the two that change a capacity, where files have what the table says.
+/// Every event keeps room in each line, also the two that change a capacity, where files have what the table says, no
+/// actor has seen more versions than there are and each command has come no further than it can.
 pub fn room_is_always_kept()
     ensures { RoomIsAlwaysKept }
 {}
 
-/// Every event keeps that a frame in hand is the batch's front and its owner's, whose receive turn is under way. So it
-/// is in each world that a run reaches.
+/// Every event keeps that a frame in hand is the batch's front and its owner's, whose receive turn is under way with
+/// this very frame, where each command has come no further than it can and lines are in their three parts. So it is in
+/// each world that a run reaches.
 pub fn hand_is_owners()
     ensures kept { HandIsKept }
     ensures reached { HandIsOwnersInRuns }
 {}
 
-/// No event of a world that a run reaches is refused for its names.
+/// No event of a world that a run reaches is refused for its names, where commands are numbered from 0 on.
 pub fn names_are_new()
     ensures { NamesAreNew }
 {}
@@ -138,7 +145,8 @@ pub fn soundness_is_kept()
     vhost_dev::lists_stay_in_order();
 }
 
-/// So each world that a run reaches is sound, and the one that it ends in.
+/// So each world that a run reaches is sound, and the one that it ends in, where declared first places are at most
+/// 2^40 - 1 and each vhost's guest has a region.
 pub fn runs_are_sound()
     ensures reached { ReachedIsSound }
     ensures ended { RunIsSound }
@@ -149,7 +157,8 @@ pub fn runs_are_sound()
     vhost_dev::lists_stay_in_order();
 }
 
-/// Every event keeps all parts of what is sound but what rings are, and they hold in each world that a run reaches.
+/// Every event keeps all parts of what is sound but what rings are, and they hold in each world that a run reaches,
+/// where declared first places are at most 2^40 - 1.
 pub fn sound_but_rings()
     ensures kept { SoundButRingsIsKept }
     ensures reached { ReachedIsSoundButRings }

@@ -7,9 +7,10 @@
 //! `specs/StepTable.antt`, `specs/StepRing.antt`, `specs/StepControl.antt`, `specs/StepBackend.antt`,
 //! `specs/StepTurns.antt`, `specs/StepTransmits.antt`; all of them: `specs/Step.antt`. `specs/Commands.antt` is the
 //! table of the events of each command, in the forms of `specs/Grammar.antt`; `specs/Scripts.antt` says which event
-//! a command has next, `specs/Runs.antt` what a run is and which one a seed picks, `specs/Sound.antt` and
-//! `specs/SoundRings.antt` what is to hold in every world of a run, `specs/Project.antt` the trace of a run,
-//! `specs/Laws.antt` what this means, and `specs/Examples.antt` a worked run.
+//! a command has next, `specs/Runs.antt` what a run is and which one a seed picks. What is to hold in every world of a
+//! run is in `specs/Sound.antt` over `specs/SoundNames.antt`, `specs/SoundTable.antt`, `specs/SoundRings.antt` and
+//! `specs/SoundActors.antt`; the trace of a run in `specs/Project.antt`, what this means in `specs/Laws.antt`, and a
+//! worked run in `specs/Examples.antt`.
 #![tactic(auto)]
 
 mod event;
