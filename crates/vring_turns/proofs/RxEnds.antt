@@ -2,6 +2,7 @@
 use Rattle.std.proofs.Common.{◌≡◌, ℕ, ◌+◌, Bool, true, false, List, [], ◌∷◌, ◌++◌, length, Option, None, Some, if◌then◌else◌, nat_le, nat_eq, refl, sym, ap, ◌∙◌, subst, append_assoc}
 use Rattle.std.specs.Option.{option_to_list}
 use Rattle.std.proofs.lemmas.List.{append-nil}
+use Rattle.vring_split.specs.declared.fault.RingFault.{RingFault}
 use Rattle.vring_split.specs.declared.segment.Segment.{Segment}
 use Rattle.vring_walk.specs.declared.walk.Fetched.{Fetched}
 use Rattle.vring_walk.specs.declared.walk.Fetched.TheVariants.{Chain, Nothing, Bad, Crowded}
@@ -22,7 +23,8 @@ use Rattle.vring_turns.specs.ReceiveImage.{need_of}
 use Rattle.vring_turns.specs.RxTurn.{RxTurn, RxState, rx_begun, quota, goes_on, rx_ring, rx_made, rewinding, rx_rewinds, rx_way, rx_outs, rx_puts_back, rx_hands, rx_with, rx_in_hand, rx_next, stage_of, rx_at, rx_closing}
 use Rattle.vring_turns.specs.RxRun.{RxMoment, IsRxRun, needed_by}
 use Rattle.vring_turns.specs.Standing.{RxStandsAt, RxStands}
-use Rattle.vring_turns.specs.Ends.{turns_on, is_again, rx_enough, rx_ends_at, rx_ends_by, rx_end_at, rx_is_second, RxAgainAt, RxEnds, IsWholeRx, IsShortAt, AreShort}
+use Rattle.vring_turns.specs.Ends.{first_answer, turns_on, is_again, rx_enough, rx_ends_at, rx_ends_by, rx_end_at, rx_is_second, RxAgainAt, RxEnds, IsWholeRx, IsShortAt, AreShort}
+use Rattle.vring_turns.proofs.TxEnds.{told_stopped}
 use Rattle.vring_turns.proofs.TxRuns.{some_is}
 use Rattle.vring_turns.proofs.RxRuns.{published_made, copied_made}
 use Rattle.vring_turns.proofs.Standings.{OrderLaws}
@@ -118,9 +120,9 @@ found_tells false s need Crowded segments is =
 found_tells true s need Crowded segments is =
     record { ends = refl; second = refl; again = λ h. h; short = λ h. tt }
 found_tells false s need (Bad fault) segments is =
-    record { ends = refl; second = refl; again = λ h. sym h; short = λ h. tt }
+    record { ends = sym (told_stopped fault); second = refl; again = λ h. sym h; short = λ h. tt }
 found_tells true s need (Bad fault) segments is =
-    record { ends = refl; second = refl; again = λ h. sym h; short = λ h. tt }
+    record { ends = sym (told_stopped fault); second = refl; again = λ h. sym h; short = λ h. tt }
 
 fetch_tells :
     (second : Bool) (s s' : RxState) (told : Act) (need : ℕ)
@@ -320,12 +322,17 @@ run_tells t t' q q' (m ∷ ms) run =
 
 -- a whole turn
 pub whole_ends :
-    (o : Option End) (mergeable : Bool) (header : ℕ) (q : Queue) (ms : List RxMoment) (end : End)
-    → IsWholeRx o (rx_begun mergeable header) q ms end
-    → option_to_list o ++ rx_ends_by false ms ≡ end ∷ []
-whole_ends (Some e) mergeable header q ms end h = rw (h.0, h.1) refl
-whole_ends None mergeable header q ms end (t', q', run, over) =
-    sym (run_tells (rx_begun mergeable header) t' q q' ms run).ends ∙ ap rx_end_at over
+    (backed : Bool) (stopped : Option RingFault) (mergeable : Bool) (header : ℕ) (q : Queue) (ms : List RxMoment)
+    (t' : RxTurn) (end : End)
+    → IsWholeRx (first_answer backed stopped) (rx_begun mergeable header) q ms t' end
+    → (option_to_list (first_answer backed stopped) ++ rx_ends_by false ms ≡ end ∷ []) × (is_again end ≡ rx_enough t')
+whole_ends false stopped mergeable header q ms t' end (none, same, is) = (rw (none, is) refl, rw (is, same) refl)
+whole_ends true (Some fault) mergeable header q ms t' end (none, same, is) =
+    (rw (none, is) refl, rw (is, same) refl)
+whole_ends true None mergeable header q ms t' end (q', run, over) =
+    let tells = run_tells (rx_begun mergeable header) t' q q' ms run in
+    let P : RxStage → Type 0 = λ k. RxAgainAt k (rx_enough t') in
+    (sym tells.ends ∙ ap rx_end_at over, subst P over (tells.again refl))
 
 pub all_short :
     OrderLaws → (t t' : RxTurn) (q q' : Queue) (ms : List RxMoment)

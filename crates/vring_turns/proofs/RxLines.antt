@@ -23,7 +23,7 @@ use Rattle.vring_turns.specs.ReceiveImage.{need_of}
 use Rattle.vring_turns.specs.Hands.{Hands, MovesAt}
 use Rattle.vring_turns.specs.RxTurn.{RxTurn, RxState, overrun, rx_ring, rx_made, rewinding, rx_outs, rx_puts_back, rx_hands, rx_with, rx_in_hand, rx_next, stage_of, rx_at, rx_closing, rx_rewinds, rx_way, rx_after_fetch, rx_after_second}
 use Rattle.vring_turns.specs.RxRun.{IsRxRun, needed_by}
-use Rattle.vring_turns.specs.RxLine.{Other, Joins, Purges, Cuts, LineEvent, Makes, Meets, Does, IsKnownAt, AreMoves, own_steps, with_fate, leaves_at, left_at, left_by, line_at, line_by, back_at, back_by, has_frame, PutsBack, TellsNeed, PutsBackAt, Handles, PassesLine}
+use Rattle.vring_turns.specs.RxLine.{Other, Joins, Purges, Cuts, Looks, LineEvent, Makes, Meets, Does, IsKnownAt, AreMoves, own_steps, with_fate, leaves_at, left_at, left_by, line_at, line_by, back_at, back_by, has_frame, PutsBack, TellsNeed, PutsBackAt, Handles, PassesLine}
 use Rattle.vring_turns.proofs.TxRuns.{some_is}
 use Rattle.vring_turns.proofs.RxRuns.{published_made, copied_made}
 use Rattle.vring_turns.proofs.LineStages.{closing_has, closing_back, packet_has, packet_back, way_has, way_back, first_back, second_back, first_has, second_has}
@@ -384,6 +384,13 @@ meets t f g (Cuts frame) back h does =
       out = does.1 ∙ sym (append-nil f.out);
       line = λ gone.
           ap (λ l. take (length l - 1) l) (whole gone) ∙ without_last (gone ++ (held ++ g.waiting)) frame;
+      handles = record { holds = h.holds; in_hand = does.2 ∙ h.in_hand; puts_back = h.puts_back };
+    }
+meets t f g Looks back h does =
+    let held = option_to_list t.held in
+    record {
+      out = does.1 ∙ sym (append-nil f.out);
+      line = λ gone. ap (λ l. gone ++ (held ++ l)) (sym does.0);
       handles = record { holds = h.holds; in_hand = does.2 ∙ h.in_hand; puts_back = h.puts_back };
     }
 

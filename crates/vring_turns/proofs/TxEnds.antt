@@ -1,9 +1,10 @@
 -- What ends a transmit turn.
-use Rattle.std.proofs.Common.{◌≡◌, ℕ, Bool, true, false, List, [], ◌∷◌, ◌++◌, Option, None, Some, if◌then◌else◌, nat_le, nat_lt, nat_eq, refl, sym, ap, ◌∙◌, subst, append_assoc}
+use Rattle.std.proofs.Common.{◌≡◌, ℕ, Bool, true, false, List, [], ◌∷◌, ◌++◌, Option, None, Some, if◌then◌else◌, nat_le, nat_lt, nat_eq, refl, sym, ap, ◌∙◌, subst, append_assoc, arith}
 use Rattle.std.specs.Option.{option_to_list}
 use Rattle.std.proofs.lemmas.List.{append-nil}
 use Rattle.vring_split.specs.declared.fault.RingFault.{RingFault}
 use Rattle.vring_split.specs.declared.segment.Segment.{Segment}
+use Rattle.vring_split.specs.Split.{number_of_fault}
 use Rattle.vring_walk.specs.declared.walk.Fetched.{Fetched}
 use Rattle.vring_walk.specs.declared.walk.Fetched.TheVariants.{Chain, Nothing, Bad, Crowded}
 use Rattle.vhost_queue.specs.Queue.{Queue}
@@ -21,7 +22,7 @@ use Rattle.vring_turns.specs.Ring.{Gathered, Made, joined, told_of, found, fetch
 use Rattle.vring_turns.specs.TransmitBytes.{bytes_of_chain, refusal_of}
 use Rattle.vring_turns.specs.TxTurn.{TxTurn, TxState, tx_begun, tx_ring, tx_made, tx_done, tx_judged, tx_copies, tx_gives, tx_after_packet, tx_after_fetch, tx_after_second, tx_after_notices, tx_next}
 use Rattle.vring_turns.specs.TxRun.{Moment, IsTxRun}
-use Rattle.vring_turns.specs.Ends.{turns_on, is_again, tx_enough, tx_ends_at, tx_ends_by, tx_end_at, tx_is_second, TxAgainAt, TxEnds, IsWholeTx}
+use Rattle.vring_turns.specs.Ends.{first_answer, stopped_by, turns_on, is_again, tx_enough, tx_ends_at, tx_ends_by, tx_end_at, tx_is_second, TxAgainAt, TxEnds, IsWholeTx}
 use Rattle.vring_turns.proofs.TxRuns.{some_is, published_made}
 
 -- what a step at a stage brings about and leaves
@@ -54,6 +55,13 @@ closing_again true e enough h = h
 closing_again false e enough h = h
 
 -- One step.
+
+same_number : (n : ℕ) → nat_eq n n ≡ true
+same_number n = grind arith
+
+-- a fault that stopped the ring, and is told by its number
+pub told_stopped : (fault : RingFault) → stopped_by (number_of_fault fault) (Some fault) ≡ end.Stopped fault ∷ []
+told_stopped fault = rw (same_number (number_of_fault fault)) refl
 
 -- a fetch that found this
 first_tells :
@@ -91,7 +99,7 @@ first_tells st (Bad fault) segments s e =
     ) in
     let P : TxStage → Type 0 = λ k. Tells tx.Fetch s.turn (y k) in
     subst P (some_is (if b then tx.Ended (end.Stopped fault) else tx.Publish (Some (end.Stopped fault))) st e) (record {
-      ends = closing_end b (end.Stopped fault);
+      ends = closing_end b (end.Stopped fault) ∙ sym (told_stopped fault);
       second = closing_second b (end.Stopped fault);
       again = λ h. closing_again b (end.Stopped fault) (tx_enough s.turn) (sym h);
     })
@@ -135,7 +143,8 @@ second_tells st (Bad fault) segments s e =
       told_of s.queue.positions.next (Bad fault),
     ) in
     let P : TxStage → Type 0 = λ k. Tells tx.FetchAgain s.turn (y k) in
-    subst P (some_is (tx.NoticesOff (Some fault)) st e) (record { ends = refl; second = refl; again = λ h. h })
+    subst P (some_is (tx.NoticesOff (Some fault)) st e)
+    (record { ends = sym (told_stopped fault); second = refl; again = λ h. h })
 second_tells st Crowded segments s e = cc
 
 fetch_tells :
@@ -300,9 +309,13 @@ run_tells t t' q q' (m ∷ ms) run =
 
 -- a whole turn
 pub whole_ends :
-    (o : Option End) (header : ℕ) (first : Name) (q : Queue) (ms : List Moment) (end : End)
-    → IsWholeTx o (tx_begun header first) q ms end
-    → option_to_list o ++ tx_ends_by false ms ≡ end ∷ []
-whole_ends (Some e) header first q ms end h = rw (h.0, h.1) refl
-whole_ends None header first q ms end (t', q', run, over) =
-    sym (run_tells (tx_begun header first) t' q q' ms run).ends ∙ ap tx_end_at over
+    (backed : Bool) (stopped : Option RingFault) (header : ℕ) (first : Name) (q : Queue) (ms : List Moment)
+    (t' : TxTurn) (end : End)
+    → IsWholeTx (first_answer backed stopped) (tx_begun header first) q ms t' end
+    → (option_to_list (first_answer backed stopped) ++ tx_ends_by false ms ≡ end ∷ []) × (is_again end ≡ tx_enough t')
+whole_ends false stopped header first q ms t' end (none, same, is) = (rw (none, is) refl, rw (is, same) refl)
+whole_ends true (Some fault) header first q ms t' end (none, same, is) = (rw (none, is) refl, rw (is, same) refl)
+whole_ends true None header first q ms t' end (q', run, over) =
+    let tells = run_tells (tx_begun header first) t' q q' ms run in
+    let P : TxStage → Type 0 = λ k. TxAgainAt k (tx_enough t') in
+    (sym tells.ends ∙ ap tx_end_at over, subst P over (tells.again refl))

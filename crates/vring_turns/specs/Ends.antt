@@ -1,7 +1,9 @@
--- This project's own, after Linux's vhost_net: why a turn ends. Its steps tell the end, and nothing else makes one.
-use Rattle.std.specs.Prelude.{◌≡◌, ℕ, Bool, true, false, List, [], ◌∷◌, ◌++◌, Option, None, Some, if◌then◌else◌}
+-- This project's own, after Linux's vhost_net: why a turn ends. Its steps tell the end, but for the two ends without an
+-- event (a queue that is off, want of memory), of which a run of events says nothing.
+use Rattle.std.specs.Prelude.{◌≡◌, ℕ, ◌==◌, Bool, true, false, List, [], ◌∷◌, ◌++◌, Option, None, Some, if◌then◌else◌}
 use Rattle.std.specs.Option.{option_to_list}
 use Rattle.vring_split.specs.declared.fault.RingFault.{RingFault}
+use Rattle.vring_split.specs.Split.{number_of_fault}
 use Rattle.tap_frame.specs.declared.name.Name.{Name}
 use Rattle.tap_ledger.specs.declared.act.Act.{Act}
 use Rattle.tap_ledger.specs.declared.act.Act.TheVariants as act
@@ -36,10 +38,10 @@ abbrev pub turns_on : Act → Bool
 turns_on (act.Notices on wrote) = on
 turns_on other = false
 
--- the fault that stopped the ring
-abbrev pub stopped_by : Option RingFault → List End
-stopped_by None = []
-stopped_by (Some fault) = Stopped fault ∷ []
+-- the fault that stopped the ring, where a step told its number
+abbrev pub stopped_by : ℕ → Option RingFault → List End
+stopped_by number None = []
+stopped_by number (Some fault) = if number_of_fault fault == number then Stopped fault ∷ [] else []
 
 -- the turn did as much as one turn does
 abbrev pub again_where : Bool → List End
@@ -55,11 +57,11 @@ is_again other = false
 abbrev pub tx_enough : TxTurn → Bool
 tx_enough t = is_enough t.packets t.bytes t.packets
 
--- the end that a step brings about: a second fetch found nothing, or a fetch found a fault, which stopped the ring, or
--- a chain was given or refused with which the turn did enough
+-- the end that a step brings about: a second fetch found nothing, or a fetch found a fault, which it told and which
+-- stopped the ring, or a chain was given or refused with which the turn did enough
 abbrev pub tx_ends_at : Bool → Act → TxState → List End
 tx_ends_at second act.Nothing left = if second then Idle ∷ [] else []
-tx_ends_at second (act.Halt fault) left = stopped_by left.queue.stopped
+tx_ends_at second (act.Halt number) left = stopped_by number left.queue.stopped
 tx_ends_at second (act.Given name) left = again_where (tx_enough left.turn)
 tx_ends_at second (act.Refused position bad) left = again_where (tx_enough left.turn)
 tx_ends_at second other left = []
@@ -98,18 +100,19 @@ abbrev pub TransmitTurnsTell : Type 0
 TransmitTurnsTell =
     (t t' : TxTurn) (q q' : Queue) (ms : List Moment) → IsTxRun t q ms t' q' → TxEnds t t' ms
 
--- a whole turn: it ends at once, or makes steps from its beginning to its end
-abbrev pub IsWholeTx : Option End → TxTurn → Queue → List Moment → End → Type 0
-IsWholeTx (Some first) t q ms end = (ms ≡ []) × (end ≡ first)
-IsWholeTx None t q ms end =
-    (t' : TxTurn) × (q' : Queue) × IsTxRun t q ms t' q' × (t'.stage ≡ tx.Ended end)
+-- a whole turn, with what it is at its end: it ends at once, or makes steps from its beginning to its end
+abbrev pub IsWholeTx : Option End → TxTurn → Queue → List Moment → TxTurn → End → Type 0
+IsWholeTx (Some first) t q ms t' end = (ms ≡ []) × (t' ≡ t) × (end ≡ first)
+IsWholeTx None t q ms t' end = (q' : Queue) × IsTxRun t q ms t' q' × (t'.stage ≡ tx.Ended end)
 
--- the end of a whole turn is its first answer, or the one end that its steps brought about
+-- the end of a whole turn is its first answer, or the one end that its steps brought about; it is Again exactly where
+-- the turn did enough
 abbrev pub TransmitTurnsEnd : Type 0
 TransmitTurnsEnd =
-    (header : ℕ) (first : Name) (backed : Bool) (q : Queue) (ms : List Moment) (end : End)
-    → IsWholeTx (first_answer backed q.stopped) (tx_begun header first) q ms end
-    → option_to_list (first_answer backed q.stopped) ++ tx_ends_by false ms ≡ end ∷ []
+    (header : ℕ) (first : Name) (backed : Bool) (q : Queue) (ms : List Moment) (t' : TxTurn) (end : End)
+    → IsWholeTx (first_answer backed q.stopped) (tx_begun header first) q ms t' end
+    → (option_to_list (first_answer backed q.stopped) ++ tx_ends_by false ms ≡ end ∷ [])
+    × (is_again end ≡ tx_enough t')
 
 -- Receive.
 
@@ -117,12 +120,13 @@ abbrev pub rx_enough : RxTurn → Bool
 rx_enough t = is_enough t.packets t.bytes t.handled
 
 -- the end that a step brings about, by what it began with and what it left: no frame was ready, or a second fetch found
--- nothing, or a fetch found a fault, which stopped the ring, or a frame went out with which the turn did enough
+-- nothing, or a fetch found a fault, which it told and which stopped the ring, or a frame went out with which the turn
+-- did enough
 abbrev pub rx_ends_at : Bool → Act → RxState → RxState → List End
 rx_ends_at second act.NotReady was left = Idle ∷ []
 rx_ends_at second act.Nothing was left =
     if second then Short (needed_by was.turn.header was.turn.held) (room_in was.turn.chains) ∷ [] else []
-rx_ends_at second (act.Halt fault) was left = stopped_by left.queue.stopped
+rx_ends_at second (act.Halt number) was left = stopped_by number left.queue.stopped
 rx_ends_at second (act.Out name) was left = again_where (rx_enough left.turn)
 rx_ends_at second other was left = []
 
@@ -158,16 +162,16 @@ abbrev pub ReceiveTurnsTell : Type 0
 ReceiveTurnsTell =
     (t t' : RxTurn) (q q' : Queue) (ms : List RxMoment) → IsRxRun t q ms t' q' → RxEnds t t' ms
 
-abbrev pub IsWholeRx : Option End → RxTurn → Queue → List RxMoment → End → Type 0
-IsWholeRx (Some first) t q ms end = (ms ≡ []) × (end ≡ first)
-IsWholeRx None t q ms end =
-    (t' : RxTurn) × (q' : Queue) × IsRxRun t q ms t' q' × (t'.stage ≡ rx.Ended end)
+abbrev pub IsWholeRx : Option End → RxTurn → Queue → List RxMoment → RxTurn → End → Type 0
+IsWholeRx (Some first) t q ms t' end = (ms ≡ []) × (t' ≡ t) × (end ≡ first)
+IsWholeRx None t q ms t' end = (q' : Queue) × IsRxRun t q ms t' q' × (t'.stage ≡ rx.Ended end)
 
 abbrev pub ReceiveTurnsEnd : Type 0
 ReceiveTurnsEnd =
-    (mergeable : Bool) (header : ℕ) (backed : Bool) (q : Queue) (ms : List RxMoment) (end : End)
-    → IsWholeRx (first_answer backed q.stopped) (rx_begun mergeable header) q ms end
-    → option_to_list (first_answer backed q.stopped) ++ rx_ends_by false ms ≡ end ∷ []
+    (mergeable : Bool) (header : ℕ) (backed : Bool) (q : Queue) (ms : List RxMoment) (t' : RxTurn) (end : End)
+    → IsWholeRx (first_answer backed q.stopped) (rx_begun mergeable header) q ms t' end
+    → (option_to_list (first_answer backed q.stopped) ++ rx_ends_by false ms ≡ end ∷ [])
+    × (is_again end ≡ rx_enough t')
 
 -- a fetch that finds nothing is made where the chains are too short for the frame in hand, and fewer than it may go
 -- into

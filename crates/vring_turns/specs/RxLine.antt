@@ -21,11 +21,12 @@ use Rattle.vring_turns.specs.Hands.{Moves}
 -- What happens.
 
 -- what another actor does to the queue between two steps: it sends a frame, which is known to wait behind the others;
--- it purges the front one; or it cuts the newest one
+-- it purges the front one; it cuts the newest one; or it looks, and what else a queue tells may change
 pub data Other : Type 0 where
   Joins : FrameValue → Other
   Purges : FrameValue → Other
   Cuts : FrameValue → Other
+  Looks : Other
 
 -- a purge waits where a frame is in hand, and a frame that is cut isn't out
 abbrev pub Does : Other → QueueState → QueueState → Type 0
@@ -36,6 +37,7 @@ Does (Purges frame) f g =
     × (f.in_hand ≡ None) × (g.in_hand ≡ None)
 Does (Cuts frame) f g =
     (f.waiting ≡ g.waiting ++ frame ∷ []) × (g.out ≡ f.out) × (g.in_hand ≡ f.in_hand)
+Does Looks f g = (g.waiting ≡ f.waiting) × (g.out ≡ f.out) × (g.in_hand ≡ f.in_hand)
 
 -- a step of the turn, with the frames that became known as it looked for one, or what another does
 pub data LineEvent : Type 0 where
@@ -92,6 +94,7 @@ line_at (Makes m more) line = line ++ more
 line_at (Meets (Joins frame)) line = line ++ frame ∷ []
 line_at (Meets (Purges frame)) line = line
 line_at (Meets (Cuts frame)) line = take (length line - 1) line
+line_at (Meets Looks) line = line
 
 abbrev pub line_by : List LineEvent → List FrameValue → List FrameValue
 line_by [] line = line

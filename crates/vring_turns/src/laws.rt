@@ -54,20 +54,22 @@ pub fn receive_standing()
     positions_stay_in_order();
 }
 
-/// Why a transmit turn ends, whatever others write into the memory between its steps: with its first answer,
-/// or with the one end that one of its steps brought about: a second fetch, after notices on, that found
-/// nothing; a fetch that found a fault; a packet with which it did as much as one turn does. Where none of
+/// Why a transmit turn ends, whatever others write into the memory between its steps, but for the end without
+/// an event, want of memory: with its first answer, or with the one end that one of its steps brought about: a
+/// second fetch, after notices on, that found nothing; a fetch that found a fault, and told its number; a
+/// packet with which it did as much as one turn does, which is the end exactly where it did. Where none of
 /// them did, it goes on.
 pub fn transmit_ends()
     ensures tell { TransmitTurnsTell }
     ensures end { TransmitTurnsEnd }
 {}
 
-/// Why a receive turn ends, whatever others write into the memory between its steps: with its first answer,
-/// or with the one end that one of its steps brought about: a frame that wasn't ready; a second fetch, after
-/// notices on, that found nothing; a fetch that found a fault; a packet with which it did as much as one turn
-/// does. Where a fetch finds nothing, the chains are too short for the frame in hand, and fewer than it may
-/// go into.
+/// Why a receive turn ends, whatever others write into the memory between its steps, but for the two ends
+/// without an event, a queue of frames that is off and want of memory: with its first answer, or with the one
+/// end that one of its steps brought about: a frame that wasn't ready; a second fetch, after notices on, that
+/// found nothing; a fetch that found a fault, and told its number; a packet with which it did as much as one
+/// turn does, which is the end exactly where it did. Where a fetch finds nothing, the chains are too short for
+/// the frame in hand, and fewer than it may go into.
 pub fn receive_ends()
     ensures tell { ReceiveTurnsTell }
     ensures end { ReceiveTurnsEnd }

@@ -2,8 +2,8 @@
 //!
 //! It remembers nothing between two steps but what it tests, so it serves programs that make turns one
 //! after another. What a turn did is what its worker's steps say; here it is said that a report is that of
-//! its worker, whose turn is over for the end that is reported: `specs/Reports.antt`. No clause says which
-//! steps are made, nor where the answer is None.
+//! its worker, whose turn is over for the end that is reported: `specs/Reports.antt`. A step is made exactly
+//! where it may be (`specs/Looking.antt`). That the loop ends no turn before its end is reckoned, not proved.
 #![tactic(auto)]
 
 mod sent;

@@ -1,5 +1,6 @@
 //! Transmit turns.
-ghost use Rattle.std.specs.Prelude.{IfSome};
+ghost use Rattle.std.specs.Prelude.{◌↔◌, IsTrue, IfSome, OnSome, IfNone};
+ghost use Rattle.whole_turns.specs.Looking.{MayTransmit};
 ghost use Rattle.whole_turns.specs.Reports.{TxEnded, TxReports};
 
 use crate::STEPS;
@@ -10,11 +11,20 @@ use vhost_tx::{TxStep, TxWorker};
 use vring_turns::TurnEnd;
 use vring_walk::is_good;
 
+// Whether the next step may be made.
+fn may(worker: &TxWorker, vq: &Vq, mem: &Memory, host: &MemHost) -> bool
+    ensures { IsTrue result ↔ MayTransmit worker.now vq.now mem.now host.now }
+{
+    is_good(mem, &vq.layout()) && worker.fits(vq) && worker.lies_in(mem) && host.room() > 0
+}
+
 // One step, where one may be made.
 fn step(worker: &mut TxWorker, vq: &mut Vq, mem: &mut Memory, host: &mut MemHost) -> Option<TxStep>
-    ensures { IfSome result (TxReports worker.new.turn) }
+    ensures reports { IfSome result (TxReports worker.new.turn) }
+    ensures made { OnSome result (MayTransmit worker.old vq.old mem.old host.old) }
+    ensures none { IfNone result (¬ MayTransmit worker.old vq.old mem.old host.old) }
 {
-    if is_good(mem, &vq.layout()) && worker.fits(vq) && worker.lies_in(mem) && host.room() > 0 {
+    if may(worker, vq, mem, host) {
         Some(worker.step(vq, mem, host))
     } else {
         None

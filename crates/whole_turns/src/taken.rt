@@ -1,5 +1,6 @@
 //! Receive turns.
-ghost use Rattle.std.specs.Prelude.{IfSome};
+ghost use Rattle.std.specs.Prelude.{◌↔◌, IsTrue, IfSome, OnSome, IfNone};
+ghost use Rattle.whole_turns.specs.Looking.{MayReceive};
 ghost use Rattle.whole_turns.specs.Reports.{RxEnded, RxReports};
 
 use crate::STEPS;
@@ -10,6 +11,16 @@ use vhost_rx::{RxStep, RxWorker};
 use vring_turns::TurnEnd;
 use vring_walk::is_good;
 
+// Whether the next step may be made.
+fn may(worker: &RxWorker, vq: &Vq, queue: &MemQueue, mem: &Memory) -> bool
+    ensures { IsTrue result ↔ MayReceive worker.now vq.now mem.now queue.now.queue }
+{
+    is_good(mem, &vq.layout())
+        && worker.fits(vq)
+        && worker.lies_in(mem)
+        && queue.in_hand() == worker.in_hand()
+}
+
 // One step, where one may be made.
 fn step(
     worker: &mut RxWorker,
@@ -17,13 +28,11 @@ fn step(
     queue: &mut MemQueue,
     mem: &mut Memory,
 ) -> Option<RxStep>
-    ensures { IfSome result (RxReports worker.new.turn) }
+    ensures reports { IfSome result (RxReports worker.new.turn) }
+    ensures made { OnSome result (MayReceive worker.old vq.old mem.old queue.old.queue) }
+    ensures none { IfNone result (¬ MayReceive worker.old vq.old mem.old queue.old.queue) }
 {
-    if is_good(mem, &vq.layout())
-        && worker.fits(vq)
-        && worker.lies_in(mem)
-        && queue.in_hand() == worker.in_hand()
-    {
+    if may(worker, vq, queue, mem) {
         Some(worker.step(vq, queue, mem))
     } else {
         None

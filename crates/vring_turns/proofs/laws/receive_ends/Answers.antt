@@ -1,4 +1,3 @@
-use Rattle.vring_turns.specs.Ends.{first_answer}
 use Rattle.vring_turns.proofs.Standings.{order_laws}
 use Rattle.vring_turns.proofs.RxEnds.{run_tells, whole_ends, all_short}
 use Rattle.vring_turns.proofs.laws.receive_ends.Goals as goal
@@ -7,8 +6,8 @@ pub returns-clause-tell : goal.returns-clause-tell
 returns-clause-tell c = run_tells
 
 pub returns-clause-end : goal.returns-clause-end
-returns-clause-end c = λ mergeable header backed q ms end h.
-    whole_ends (first_answer backed q.stopped) mergeable header q ms end h
+returns-clause-end c = λ mergeable header backed q ms t' end h.
+    whole_ends backed q.stopped mergeable header q ms t' end h
 
 pub returns-clause-short : goal.returns-clause-short
 returns-clause-short c =
