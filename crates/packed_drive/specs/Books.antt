@@ -1,5 +1,5 @@
 -- This project's own: what a driver keeps of its packed ring.
-use Rattle.std.specs.Prelude.{◌≡◌, ℕ, zero, suc, ◌+◌, ◌-◌, List, [], ◌∷◌, slice_set, replicate, Option, None, Some}
+use Rattle.std.specs.Prelude.{ℕ, suc, ◌+◌, ◌-◌, List, [], ◌∷◌, slice_set, replicate, Option, None, Some}
 use Rattle.guest_mem.specs.Memory.{Contents}
 use Rattle.vring_packed.specs.declared.place.Place.{Place}
 use Rattle.vring_packed.specs.Packed.{first_place, place_after}

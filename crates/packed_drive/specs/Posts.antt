@@ -4,7 +4,6 @@ use Rattle.std.specs.Option.{option_or}
 use Rattle.guest_mem.specs.Memory.{Contents, written}
 use Rattle.vring_drive.specs.declared.error.PostErr.{PostErr}
 use Rattle.vring_drive.specs.declared.error.PostErr.TheVariants.{Full}
-use Rattle.vring_drive.specs.Area.{slot_len}
 use Rattle.vring_drive.specs.Posts.{told, length_refusal, full_pieces, piece_lens}
 use Rattle.vring_packed.specs.declared.desc.PackedDesc.{PackedDesc}
 use Rattle.vring_packed.specs.declared.place.Place.{Place}

@@ -1,6 +1,7 @@
 //! A lawful driver of a packed ring.
 ghost use Rattle.std.specs.Prelude.{◌≡◌, ◌+◌, ◌<◌, ◌≤◌, ◌↔◌, IsTrue, IfOk, OnOk, OnErr, IsOkUnless, IsErrOf, IsOk, MatchOption, All, length};
-ghost use Rattle.guest_mem.specs.Memory.{covers};
+ghost use Rattle.guest_mem.specs.Memory.{Contents, covers};
+ghost use Rattle.vring_packed.specs.Packed.{IsGoodFor};
 ghost use Rattle.vring_drive.specs.Posts.{piece_lens};
 ghost use Rattle.packed_drive.specs.Area.{layout_at, drive_refusal};
 ghost use Rattle.packed_drive.specs.Books.{HasArea, first_books, free_of, lowest, sent_out};
@@ -9,8 +10,8 @@ ghost use Rattle.packed_drive.specs.Harvests.{Answers, TakesBack, harvested};
 
 use crate::area::{self, area_len};
 use crate::ids::{count_at, lowest};
-use crate::read::{desc_at, is_used};
 use crate::pieces::{first_too_long, piece_count, piece_lens};
+use crate::read::{desc_at, is_used};
 use crate::write::{Post, fill, link, write_desc};
 use guest_mem::{Memory, range_laws};
 use std::alloc::Global;
@@ -77,8 +78,10 @@ impl PackedDriver {
 
     /// The ring's layout, as the two sides agreed on indirect tables and events, and for this direction.
     pub fn layout(&self, indirect: bool, event: bool, rx: bool) -> PackedLayout
-        ensures { result ≡ layout_at self.now.start self.now.num indirect event rx }
+        ensures layout { result ≡ layout_at self.now.start self.now.num indirect event rx }
+        ensures good { (m : Contents) → HasArea self.now m → IsGoodFor result (covers m.regions) }
     {
+        range_laws();
         area::layout_at(self.at, self.num, indirect, event, rx)
     }
 

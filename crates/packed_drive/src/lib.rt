@@ -16,3 +16,6 @@ mod write;
 
 pub use crate::driver::PackedDriver;
 pub use vring_drive::{DriveErr, OrMemory, PostErr, StrayUsed};
+
+#[cfg(test)]
+mod tests;

@@ -1,4 +1,4 @@
-use Rattle.std.proofs.Common.{◌≡◌, ℕ, ◌-◌, ◌<◌, List, length, Option, ap, ◌∙◌, sym, subst, arith}
+use Rattle.std.proofs.Common.{◌≡◌, ◌-◌, ◌<◌, length, ap, ◌∙◌, sym, subst, arith}
 use Rattle.packed_drive.specs.Books.{Books, lowest, total, free_of}
 use Rattle.packed_drive.proofs.Outs.{some_id}
 use Rattle.packed_drive.proofs.driver.PackedDriver.lowest_id.Goals as goal

@@ -1,5 +1,5 @@
-use Rattle.std.proofs.Common.{◌≡◌, ℕ, ◌+◌, ◌<◌, ◌≤◌, IsTrue, List, length, replicate, Option, None, Some, sym, ap, ◌∙◌, rules, arith}
-use Rattle.std.specs.Prelude.{is_none, IfSome, All}
+use Rattle.std.proofs.Common.{◌≡◌, ℕ, ◌<◌, ◌≤◌, IsTrue, length, replicate, Option, None, sym, ap, ◌∙◌, rules, arith}
+use Rattle.std.specs.Prelude.{is_none, IfSome}
 use Rattle.std.proofs.lemmas.List.{length-replicate}
 use Rattle.std.proofs.lemmas.List.Elements.{All-replicate}
 use Rattle.guest_mem.specs.Memory.{covers, first_bad}

@@ -1,8 +1,8 @@
-use Rattle.std.proofs.Common.{◌≡◌, ℕ, ◌+◌, ◌-◌, ◌<◌, ◌≤◌, List, length, set, get_or, Option, None, Some, sym, ap, ◌∙◌, subst, rules, arith, length-set}
-use Rattle.std.specs.Prelude.{IfSome, All}
+use Rattle.std.proofs.Common.{◌≡◌, ℕ, ◌-◌, ◌<◌, ◌≤◌, length, get_or, Option, None, Some, sym, ap, ◌∙◌, subst, arith, length-set}
+use Rattle.std.specs.Prelude.{IfSome}
 use Rattle.std.proofs.lemmas.List.Elements.{All-set}
 use Rattle.packed_drive.specs.Books.{Books, total, lowest, count_of, free_of}
-use Rattle.packed_drive.proofs.Outs.{total_set, at_lowest, some_id}
+use Rattle.packed_drive.proofs.Outs.{total_set, at_lowest}
 use Rattle.packed_drive.proofs.driver.PackedDriver.send_out.Goals as goal
 
 pub overflow_cast-count : goal.overflow_cast-count

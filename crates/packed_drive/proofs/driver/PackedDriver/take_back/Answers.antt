@@ -1,8 +1,7 @@
-use Rattle.std.proofs.Common.{◌≡◌, ℕ, ◌+◌, ◌<◌, ◌≤◌, List, length, set, Option, None, Some, sym, ap, ◌∙◌, rules, arith, length-set}
-use Rattle.std.specs.Prelude.{IfSome, All, slice_get}
+use Rattle.std.proofs.Common.{◌≡◌, ℕ, ◌≤◌, Option, None, Some, ◌∙◌, rules, arith, length-set}
+use Rattle.std.specs.Prelude.{IfSome, slice_get}
 use Rattle.std.specs.Option.{option_flatten}
 use Rattle.std.proofs.lemmas.List.Elements.{All-set}
-use Rattle.packed_drive.specs.Books.{total}
 use Rattle.packed_drive.proofs.Outs.{total_without}
 use Rattle.packed_drive.proofs.driver.PackedDriver.take_back.Goals as goal
 
