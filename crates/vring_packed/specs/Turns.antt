@@ -37,8 +37,8 @@ asked area = record {
   bytes = with_bytes (with_bytes [] 48 (to_le_bytes w16 area.0)) 50 (to_le_bytes w16 area.1);
 }
 
--- the three places from entry 2 on are passed: all notices, none; with events at the first, at the last, one behind, and
--- at one before; a mode that isn't known; and without events at a place that isn't passed
+-- the three places from entry 2 on are passed: all notices, none; with events at the first, at the last, one behind, one
+-- before, and an entry that isn't there; a mode that isn't known; and without events at a place that isn't passed
 abbrev pub NoticesAreWanted : Type 0
 NoticesAreWanted =
     (map (λ area. wants_notice (ring_of_three true) last_place 3 (asked area))
