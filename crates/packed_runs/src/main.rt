@@ -9,7 +9,7 @@ use packed_drive::{PackedDriver, PostErr};
 use std::alloc::Global;
 use vring_packed::{PackedFetched, PackedLayout, PackedVq, Segments};
 
-/// How many descriptors the ring has, so that its end comes at any place of a chain.
+/// How many descriptors the ring of the random steps has, so that its end comes at any place of a chain.
 const NUM: u16 = 13;
 /// How many posts, turns and harvests there are together.
 const STEPS: u32 = 100_000;
@@ -157,9 +157,19 @@ fn step(sides: &mut Sides, mem: &mut Memory, alloc: Global, x: &mut u64) -> Resu
     }
 }
 
-/// The two sides at their start.
-fn start(mem: &Memory, alloc: Global) -> Result<Sides> {
-    let driver = PackedDriver::new(alloc, mem, 0, NUM)
+/// A memory of one region.
+fn memory(alloc: Global) -> Result<Memory> {
+    let regions = [Region {
+        addr: 0,
+        len: 1_048_576,
+    }];
+    Memory::new(alloc, &regions).context("regions")
+}
+
+/// The two sides at their start, with a ring of so many descriptors.
+fn start(mem: &Memory, alloc: Global, num: u16) -> Result<Sides> {
+    ensure!(1 <= num && num <= 32_768, "the queue size");
+    let driver = PackedDriver::new(alloc, mem, 0, num)
         .ok()
         .context("driver")?;
     let ring: PackedLayout = driver.layout(true, false, false);
@@ -175,13 +185,28 @@ fn start(mem: &Memory, alloc: Global) -> Result<Sides> {
     })
 }
 
+/// A ring of three: posts, turns and a harvest, after which the lowest id goes out again and the ring's
+/// end was passed.
+fn around_three(alloc: Global) -> Result<()> {
+    let mut mem = memory(alloc)?;
+    let mut sides = start(&mem, alloc, 3)?;
+    for step in "ptpptHpt".bytes() {
+        match step {
+            b'p' => post(&mut sides, &mut mem, alloc, 1, b'a')?,
+            b't' => turn(&mut sides, &mut mem, alloc)?,
+            _ => harvest(&mut sides, &mut mem)?,
+        }
+    }
+    let published = [(0, 0, 0), (1, 1, 1), (2, 2, 2), (3, 0, 0)];
+    ensure!(sides.vq.journal() == &published[..], "other chains");
+    ensure!(sides.back == 3, "not three");
+    Ok(())
+}
+
 fn main(rt: HostRuntime) -> Result<()> {
-    let regions = [Region {
-        addr: 0,
-        len: 1_048_576,
-    }];
-    let mut mem = Memory::new(rt.alloc(), &regions).context("regions")?;
-    let mut sides = start(&mem, rt.alloc())?;
+    around_three(rt.alloc())?;
+    let mut mem = memory(rt.alloc())?;
+    let mut sides = start(&mem, rt.alloc(), NUM)?;
     let mut x = 1;
     for _ in 0..STEPS {
         step(&mut sides, &mut mem, rt.alloc(), &mut x)?;

@@ -8,3 +8,4 @@ pub mod Queue
 pub mod Calls
 pub mod Kept
 pub mod Examples
+pub mod Turns

@@ -3,11 +3,14 @@
 //! A `PackedLayout` says where a packed ring and its two event suppression areas lie, and a `Place` is
 //! an entry of the ring with its wrap counter. `fetch` takes the chain that is available at a place, or
 //! tells the first rule that the ring breaks; `publish_at`, `wants_notice` and `set_notices` are what a
-//! device writes to publish chains, and what it reads and writes about notices.
+//! device writes to publish chains, and what it reads and writes about notices. A `PackedVq` is what a
+//! device keeps of a ring; it is `Once`, as a split ring's queue is.
 //!
 //! `specs/Packed.antt` has the picture: places, descriptors and their flags. `specs/Chain.antt` has the
-//! rules for a descriptor, `specs/Fetched.antt` what a fetch finds, as functions of the memory, and
-//! `specs/Publication.antt` which bytes a publication writes, and when the driver wants a notice.
+//! rules for a descriptor; `specs/Fetched.antt` says what a fetch finds as a function of the memory, and
+//! `specs/Paths.antt` as a relation. `specs/Publication.antt` says which bytes a publication writes, and
+//! when the driver wants a notice, `specs/Queue.antt` what each call makes of a queue, and
+//! `specs/Calls.antt` what any list of calls publishes.
 #![tactic(auto)]
 
 mod chain;
