@@ -4,8 +4,6 @@
 //! With the word `time` it prints the nanoseconds that a call took.
 #![tactic(auto)]
 
-ghost use Rattle.std.specs.Prelude.{◌<◌};
-
 use anyhow::Result;
 use std::alloc::AllocError;
 use std::env;
@@ -42,26 +40,23 @@ fn send(bridge: &mut Bridge, from: u16, to: u16, now: u64) -> Result<Vec<u16>, A
 
 /// Sends frames between so many stations, each to the one before it, and answers at how many ports they were sent on
 /// together.
-fn send_all(bridge: &mut Bridge, stations: u16, frames: u32) -> Result<u64, AllocError>
-    requires { 0 < stations }
-{
+fn send_all(bridge: &mut Bridge, stations: u16, frames: u32) -> Result<u64, AllocError> {
     let mut sent: u64 = 0;
     let mut from: u16 = 0;
-    let mut before: u16 = stations - 1;
+    let mut before = stations.saturating_sub(1);
     for call in 0..frames {
         let now = u64::from(call / 1024);
         let out = send(bridge, from, before, now)?;
         sent = sent.saturating_add(out.len() as u64);
         before = from;
-        from = if before + 1 < stations { before + 1 } else { 0 };
+        let next = before.saturating_add(1);
+        from = if next < stations { next } else { 0 };
     }
     Ok(sent)
 }
 
 /// Makes the calls on a bridge that knows this many stations.
-fn measure<R: Print + Clock + AllocGlobal>(rt: &R, stations: u16, timed: bool) -> Result<()>
-    requires { 0 < stations }
-{
+fn measure<R: Print + Clock + AllocGlobal>(rt: &R, stations: u16, timed: bool) -> Result<()> {
     let mut bridge = Bridge::new(rt.alloc());
     let _ = send_all(&mut bridge, stations, u32::from(stations))?;
     let start = Instant::now(rt)?;
