@@ -14,7 +14,7 @@ byte_in-low low [] q h lt = refl
 byte_in-low low (b ∷ bs) q h lt =
     let first = h.0 in
     let some = h.1 in
-    ap (λ t. cond t (Some (byte_of b q)) (byte_in bs q)) (off b q (omega arith)) ∙ byte_in-low (end_of b) bs q h.3 (omega arith)
+    ap (λ t. cond t (Some (byte_of b q)) (byte_in bs q)) (off b q (omega arith)) ∙ byte_in-low (end_of b + 1) bs q h.3 (omega arith)
   where
     off : (b : Block) (q : ℕ) → q < b.addr → has_addr b q ≡ false
     off b q lt = grind (arith, nat_tests)
@@ -24,8 +24,8 @@ pub value_at-bytes_of : (low : ℕ) (bs : List Block) (q : ℕ) → AreApart low
 unfolding bytes_of
 value_at-bytes_of low [] q h = refl
 value_at-bytes_of low (b ∷ bs) q h =
-    let rest = value_at-bytes_of (end_of b) bs q h.3 in
-    value_at-nonzero_append b.addr b.bytes.items (bytes_of bs) q (λ t. rest ∙ ap (λ o. unwrap_or o 0) (byte_in-low (end_of b) bs q h.3 (below b q t)))
+    let rest = value_at-bytes_of (end_of b + 1) bs q h.3 in
+    value_at-nonzero_append b.addr b.bytes.items (bytes_of bs) q (λ t. rest ∙ ap (λ o. unwrap_or o 0) (byte_in-low (end_of b + 1) bs q h.3 (let lt = below b q t in omega arith)))
     ∙ ap (λ v. cond (has_addr b q) (byte_of b q) v) rest
     ∙ choose (has_addr b q) (byte_of b q) (byte_in bs q)
   where
@@ -43,7 +43,7 @@ stored_bytes_of rs low [] h there = tt
 stored_bytes_of rs low (b ∷ bs) h there =
     stored_lower rs b.addr low _
     (stored_nonzero rs b.addr b.bytes.items (bytes_of bs)
-    (stored_bytes_of rs (end_of b) bs h.3 (λ q some. there q (any (has_addr b q) (byte_of b q) (byte_in bs q) some)))
+    (stored_lower rs (end_of b + 1) (end_of b) (bytes_of bs) (stored_bytes_of rs (end_of b + 1) bs h.3 (λ q some. there q (any (has_addr b q) (byte_of b q) (byte_in bs q) some))) (omega arith))
     (λ k lt. there (b.addr + k) (ap is_some (ap (λ t. cond t (Some (byte_of b (b.addr + k))) (byte_in bs (b.addr + k))) (inside_on b.addr (length b.bytes.items) k lt)))))
     h.0
   where
@@ -81,7 +81,7 @@ written_apart low (b ∷ bs) (c ∷ cs) a bytes h w =
     let some = h.1 in
     let fits = h.2 in
     let same : end_of b ≡ end_of c = omega arith in
-    (omega arith, omega arith, omega arith, written_apart (end_of c) bs cs a bytes (subst (λ n. AreApart n bs) same h.3) w.1)
+    (omega arith, omega arith, omega arith, written_apart (end_of c + 1) bs cs a bytes (subst (λ n. AreApart (n + 1) bs) same h.3) w.1)
 
 -- the byte at an address after a write
 written_byte : (old new : List Block) (a : ℕ) (bytes : List ℕ) (x : ℕ) → AreWritten old new a bytes
@@ -151,6 +151,10 @@ kept_written rs old new a bytes h w covered = record {
   apart = written_apart 0 old new a bytes h.apart w;
   domain = λ x. (written_bytes old new a bytes covered w).same_domain x ∙ h.domain x;
 }
+
+-- the same where the blocks were borrowed
+pub kept_after : (rs : List Region) (old now new : List Block) (a : ℕ) (bytes : List ℕ) → now ≡ old → IsKept rs old → AreWritten now new a bytes → CoversBy (byte_in now) a (length bytes) → IsKept rs new
+kept_after rs old now new a bytes is h w covered = kept_written rs now new a bytes (subst (λ (bs : List Block). IsKept rs bs) (sym is) h) w covered
 
 -- and their list is that of the write
 pub bytes_of-written : (rs : List Region) (old new : List Block) (a : ℕ) (bytes : List ℕ) → IsKept rs old → AreWritten old new a bytes → CoversBy (byte_in old) a (length bytes)

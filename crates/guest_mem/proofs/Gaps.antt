@@ -5,7 +5,7 @@ use Rattle.std.specs.Option.{option_map}
 use Rattle.std.proofs.lemmas.Bool.Decides.{nat_tests}
 use Rattle.std.proofs.lemmas.List.Folds.{list_any-append}
 use Rattle.guest_mem.specs.declared.region.Region.{Region}
-use Rattle.guest_mem.specs.Memory.{ByteList, last_address, is_in, is_there, value_at, look, stretch, without, left_over, gaps, first_bad, covers, CoversBy, IsFirstBadBy}
+use Rattle.guest_mem.specs.Memory.{ByteList, last_address, is_in, is_there, value_at, look, stretch, without, left_over, gaps, first_bad, covers, IsStretchAround, CoversBy, IsFirstBadBy}
 use Rattle.guest_mem.proofs.Lists.{inside}
 
 -- an address lies in a stretch
@@ -168,7 +168,7 @@ none_of (Some v) e = absurd (cc)
 pub inside_on : (a n k : ℕ) → k < n → inside a n (a + k) ≡ true
 inside_on a n k lt = grind (arith, nat_tests)
 
-inside_by : (a n x : ℕ) → a ≤ x → x < a + n → inside a n x ≡ true
+pub inside_by : (a n x : ℕ) → a ≤ x → x < a + n → inside a n x ≡ true
 inside_by a n x low high = grind (arith, nat_tests)
 
 inside_of : (a n x : ℕ) → inside a n x ≡ true → (a ≤ x) × (x < a + n)
@@ -282,3 +282,35 @@ there_fits rs x h = small (list_any (is_in x) rs) x h
 
 pub covers-fits : (rs : List Region) (a n : ℕ) → covers rs a n ≡ true → 0 < n → a + n < 2 ^ 64
 covers-fits rs a n h some = let last = there_fits rs (a + (n - 1)) (covers-there rs a n h (n - 1) (omega arith)) in omega arith
+
+-- a range that starts in a stretch is covered where it ends in it
+pub covers-stretch : (rs : List Region) (a : ℕ) (s : Region) (b n : ℕ) → IsStretchAround rs a s → is_in b s ≡ true → 0 < n → covers rs b n ≡ nat_le (b + n) (s.addr + s.len)
+covers-stretch rs a s b n h start some = elim (cases (b + n) (s.addr + s.len)) [
+  | inl le ↦ covers-part rs s.addr s.len b n h.covered from.0 le ∙ sym (at_most (b + n) (s.addr + s.len) le)
+  | inr gt ↦ not_true (covers rs b n) (λ all. beyond all gt) ∙ sym (past (b + n) (s.addr + s.len) gt)
+]
+  where
+    from : (s.addr ≤ b) × (b < s.addr + s.len)
+    from = inside_of s.addr s.len b start
+
+    cases : (x y : ℕ) → (x ≤ y) ⊎ (y < x)
+    cases x y = grind arith
+
+    at_most : (x y : ℕ) → x ≤ y → nat_le x y ≡ true
+    at_most x y le = grind (arith, nat_tests)
+
+    past : (x y : ℕ) → y < x → nat_le x y ≡ false
+    past x y lt = grind (arith, nat_tests)
+
+    not_true : (t : Bool) → (t ≡ true → ⊥) → t ≡ false
+    not_true true no_more = absurd (no_more refl)
+    not_true false no_more = refl
+
+    beyond : covers rs b n ≡ true → s.addr + s.len < b + n → ⊥
+    beyond all gt =
+        let low = from.0 in
+        let high = from.1 in
+        let place : b + (s.addr + s.len - b) ≡ s.addr + s.len = omega arith in
+        let there : is_there rs (s.addr + s.len) ≡ true = subst (λ x. is_there rs x ≡ true) place (covers-there rs b n all (s.addr + s.len - b) (omega arith)) in
+        let none = h.behind in
+        absurd (cc)

@@ -1,5 +1,5 @@
-pub mod Windows
 pub mod Sorted
+pub mod Spots
 pub mod Writes
 pub mod Lists
 pub mod Gaps
@@ -7,4 +7,5 @@ pub mod Bytes
 pub mod Inserts
 pub mod Ranges
 pub mod Kept
-pub mod Parts
+pub mod Joins
+pub mod Zeros

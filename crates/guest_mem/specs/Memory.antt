@@ -1,5 +1,5 @@
 -- This project's own: a guest's memory is its regions and those of their bytes that aren't 0.
-use Rattle.std.specs.Prelude.{◌≡◌, ℕ, ◌+◌, ◌-◌, ◌^◌, ◌<◌, ◌≤◌, zero, suc, min, max, Bool, ◌&&◌, ◌==◌, nat_lt, nat_le, List, [], ◌∷◌, ◌++◌, length, filter, slice_get, slice_index, Option, None, Some, is_some, is_none, IsSome, IsTrue, unwrap_or, if◌then◌else◌}
+use Rattle.std.specs.Prelude.{◌≡◌, ℕ, ◌+◌, ◌-◌, ◌^◌, ◌<◌, ◌≤◌, zero, suc, min, max, Bool, false, ◌&&◌, ◌==◌, nat_lt, nat_le, List, [], ◌∷◌, ◌++◌, length, filter, slice_get, slice_index, Option, None, Some, is_some, is_none, IsSome, IsTrue, unwrap_or, if◌then◌else◌}
 use Rattle.std.specs.List.{list_any}
 use Rattle.std.specs.Option.{option_map}
 use Rattle.guest_mem.specs.declared.region.Region.{Region}
@@ -69,6 +69,13 @@ first_bad rs a n = option_map (λ s. s.0) (slice_get (gaps rs a n) 0)
 -- there is a byte at each of the n addresses from a on
 abbrev pub covers : List Region → ℕ → ℕ → Bool
 covers rs a n = is_none (first_bad rs a n)
+
+-- a stretch of addresses around one: there is a byte at each of its addresses, and none right before or behind them
+pub record IsStretchAround (rs : List Region) (a : ℕ) (s : Region) : Type 0 where
+  pub around : IsTrue (is_in a s)
+  pub covered : IsTrue (covers rs s.addr s.len)
+  pub before : (x : ℕ) → x + 1 ≡ s.addr → is_there rs x ≡ false
+  pub behind : is_there rs (s.addr + s.len) ≡ false
 
 -- Bytes.
 

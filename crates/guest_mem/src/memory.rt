@@ -1,6 +1,6 @@
 //! The memory of a guest.
-ghost use Rattle.std.specs.Prelude.{◌≡◌, ◌+◌, ◌^◌, ◌<◌, Some, IsTrue, is_ok, IfOk, IfErr, OnOk, OnErr, IsOkUnless, IsErrOf, MatchOption, length};
-ghost use Rattle.guest_mem.specs.Memory.{byte_at, bytes_at, bytes_from, first_bad, covers, written};
+ghost use Rattle.std.specs.Prelude.{◌≡◌, ◌+◌, ◌^◌, ◌<◌, Some, IsTrue, false, is_ok, IfSome, IfNone, IfOk, IfErr, OnOk, OnErr, IsOkUnless, IsErrOf, MatchOption, length};
+ghost use Rattle.guest_mem.specs.Memory.{is_there, byte_at, bytes_at, bytes_from, first_bad, covers, written, IsStretchAround};
 ghost use Rattle.guest_mem.specs.Regions.{refusal, zeroed, IsSound};
 
 use crate::block::Block;
@@ -58,21 +58,52 @@ impl Memory {
     }
 
     /// Whether each of the `len` addresses from `addr` on is in a region.
+    #[inline]
     pub fn covers(&self, addr: u64, len: u64) -> bool
         ensures covered { result ≡ covers self.now.regions addr len }
         ensures fits { IsTrue result → 0 < len → addr + len < 2 ^ 64 }
     {
-        self.first_bad(addr, len).is_none()
+        self.bytes(addr, len).is_ok()
     }
 
     /// The first of the `len` addresses from `addr` on that is in no region.
+    #[inline]
     pub fn first_bad(&self, addr: u64, len: u64) -> Option<u64>
         ensures { result ≡ first_bad self.now.regions addr len }
     {
-        span::first_gap(&self.blocks, addr, len)
+        span::bytes_at(&self.blocks, addr, len).err()
+    }
+
+    /// The addresses around `addr` that are in a region, up to the next ones on either side that are in
+    /// none; none if `addr` is in no region. Regions that touch are one stretch.
+    #[inline]
+    pub fn stretch_around(&self, addr: u64) -> Option<Region>
+        ensures around { IfSome result (IsStretchAround self.now.regions addr) }
+        ensures none { IfNone result (is_there self.now.regions addr ≡ false) }
+    {
+        match span::spot_of(&self.blocks, addr) {
+            Some(spot) => Some(self.blocks[spot.block].region()),
+            None => None,
+        }
+    }
+
+    /// The `len` bytes from `addr` on, as they are kept: they may lie in several regions that touch.
+    #[inline]
+    pub fn bytes(&self, addr: u64, len: u64) -> Result<&[u8], OutOfRange>
+        ensures covered { is_ok result ≡ covers self.now.regions addr len }
+        ensures bytes { IfOk result (λ bytes. bytes.now ≡ bytes_from self.now.bytes addr len) }
+        ensures looked_up { IfOk result (λ bytes. bytes.now ≡ bytes_at (byte_at self.now) addr len) }
+        ensures bad { IfErr result (λ e. first_bad self.now.regions addr len ≡ Some e.first_bad) }
+    {
+        match span::bytes_at(&self.blocks, addr, len) {
+            Ok(bytes) => Ok(bytes),
+            Err(first_bad) => Err(OutOfRange { first_bad }),
+        }
     }
 
     /// Fills the room with the bytes from `addr` on, which may lie in several regions that touch.
+    #[inline]
+    #[tactic(auto, using(crate::proofs::Ranges::length_bytes_at))]
     pub fn read(&self, addr: u64, room: &mut [u8]) -> Result<(), OutOfRange>
         ensures covered { is_ok result ≡ covers self.now.regions addr (length room.old) }
         ensures bytes { OnOk result (room.new ≡ bytes_from self.now.bytes addr (length room.old)) }
@@ -80,24 +111,22 @@ impl Memory {
         ensures bad { IfErr result (λ e. first_bad self.now.regions addr (length room.old) ≡ Some e.first_bad) }
         ensures room_unchanged { OnErr result (room.new ≡ room.old) }
     {
-        if let Some(first_bad) = self.first_bad(addr, room.len() as u64) {
-            return Err(OutOfRange { first_bad });
-        }
-        span::copy_out(&self.blocks, addr, room);
+        let bytes = self.bytes(addr, room.len() as u64)?;
+        room.copy_from_slice(bytes);
         Ok(())
     }
 
     /// Writes the bytes from `addr` on, which may lie in several regions that touch.
+    #[inline]
     pub fn write(&mut self, addr: u64, bytes: &[u8]) -> Result<(), OutOfRange>
         ensures covered { is_ok result ≡ covers self.old.regions addr (length bytes.now) }
         ensures written { OnOk result (self.new ≡ written self.old addr bytes.now) }
         ensures bad { IfErr result (λ e. first_bad self.old.regions addr (length bytes.now) ≡ Some e.first_bad) }
         ensures unchanged { OnErr result (self.new ≡ self.old) }
     {
-        if let Some(first_bad) = self.first_bad(addr, bytes.len() as u64) {
-            return Err(OutOfRange { first_bad });
+        match span::write_at(&mut self.blocks, addr, bytes) {
+            Ok(()) => Ok(()),
+            Err(first_bad) => Err(OutOfRange { first_bad }),
         }
-        span::copy_in(&mut self.blocks, addr, bytes);
-        Ok(())
     }
 }

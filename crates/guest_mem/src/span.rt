@@ -1,99 +1,106 @@
 //! Ranges of addresses over blocks in rising order.
-ghost use Rattle.std.specs.Prelude.{◌≡◌, ℕ, ◌<◌, ◌≤◌, length, slice_index_or, IfSome, IfNone};
+//!
+//! Between two blocks there is an address that neither has, so that a range without a gap lies in one of
+//! them: a range needs one search, for its first address.
+ghost use Rattle.std.specs.Prelude.{◌≡◌, ℕ, ◌+◌, ◌<◌, ◌≤◌, None, length, slice_index, slice_index_or, IfSome, IfNone, IfOk, IfErr, OnOk, OnErr};
 ghost use Rattle.guest_mem.specs.Memory.{CoversBy, HoldsBy, IsFirstBadBy};
-ghost use Rattle.guest_mem.specs.Blocks.{end_of, byte_in, AreApart, EndBehind, AreWritten};
+ghost use Rattle.guest_mem.specs.Blocks.{byte_in, spliced_byte, AreApart, IsSpot, AreWritten};
 ghost use Rattle.guest_mem.specs.declared.block.Block.{Block as OneBlock};
 
 use crate::block::Block;
 
-/// How many blocks end at an address or before it: they are the first ones.
-fn first_after(blocks: &[Block], addr: u64) -> usize
+/// Where an address lies: in which block, and behind how many of its bytes.
+#[derive(Clone, Copy)]
+pub struct Spot {
+    pub block: usize,
+    pub before: usize,
+}
+
+/// How many blocks start at an address or before it: they are the first ones.
+#[inline]
+fn first_up_to(blocks: &[Block], addr: u64) -> usize
     requires { AreApart 0 blocks.now }
     ensures bound { result ≤ length blocks.now }
-    ensures before { (k : ℕ) (d : OneBlock) → k < result → end_of (slice_index_or blocks.now k d) ≤ addr }
+    ensures before { (k : ℕ) (d : OneBlock) → k < result → (slice_index_or blocks.now k d).addr ≤ addr }
     ensures after { (k : ℕ) (d : OneBlock) → result ≤ k → k < length blocks.now
-        → addr < end_of (slice_index_or blocks.now k d) }
+        → addr < (slice_index_or blocks.now k d).addr }
 {
-    blocks.partition_point(|block| block.addr <= addr
-        && block.bytes.len() as u64 <= addr - block.addr)
+    blocks.partition_point(|block| block.addr <= addr)
 }
 
-/// The first of the addresses that no block has, where each block ends behind the first address.
-fn gap_in(blocks: &[Block], addr: u64, len: u64) -> Option<u64>
-    requires apart { AreApart 0 blocks.now }
-    requires behind { EndBehind addr blocks.now }
-    requires some { 0 < len }
-    ensures bad { IfSome result (IsFirstBadBy (byte_in blocks.now) addr len) }
-    ensures covered { IfNone result (CoversBy (byte_in blocks.now) addr len) }
-{
-    let mut at = addr;
-    for block in blocks {
-        if block.addr > at {
-            return Some(at);
-        }
-        at = block.end();
-        if at - addr >= len {
-            return None;
-        }
-    }
-    Some(at)
-}
-
-/// The first of the addresses that no block has.
-pub fn first_gap(blocks: &[Block], addr: u64, len: u64) -> Option<u64>
+/// Where an address lies, if a block has it.
+#[inline]
+pub fn spot_of(blocks: &[Block], addr: u64) -> Option<Spot>
     requires { AreApart 0 blocks.now }
-    ensures bad { IfSome result (IsFirstBadBy (byte_in blocks.now) addr len) }
-    ensures covered { IfNone result (CoversBy (byte_in blocks.now) addr len) }
+    ensures found { IfSome result (IsSpot blocks.now addr) }
+    ensures none { IfNone result (byte_in blocks.now addr ≡ None) }
 {
-    if len == 0 {
+    let count = first_up_to(blocks, addr);
+    if count == 0 {
         return None;
     }
-    gap_in(&blocks[first_after(blocks, addr)..], addr, len)
+    let block = count - 1;
+    let before = addr - blocks[block].addr;
+    if before >= blocks[block].bytes.len() as u64 {
+        return None;
+    }
+    Some(Spot {
+        block,
+        before: before as usize,
+    })
 }
 
-/// Reads the bytes from an address on.
-fn copy_from(blocks: &[Block], addr: u64, room: &mut [u8])
-    requires apart { AreApart 0 blocks.now }
-    requires covered { CoversBy (byte_in blocks.now) addr (length room.old) }
-    ensures { HoldsBy (byte_in blocks.now) addr room.new }
+/// The bytes from an address on, or the first address of the range that no block has.
+#[inline]
+pub fn bytes_at(blocks: &[Block], addr: u64, len: u64) -> Result<&[u8], u64>
+    requires { AreApart 0 blocks.now }
+    ensures len { IfOk result (λ bytes. length bytes.now ≡ len) }
+    ensures bytes { IfOk result (λ bytes. HoldsBy (byte_in blocks.now) addr bytes.now) }
+    ensures bad { IfErr result (IsFirstBadBy (byte_in blocks.now) addr len) }
 {
-    let end = addr.saturating_add(room.len() as u64);
-    for block in blocks {
-        if block.addr >= end {
-            return;
+    match spot_of(blocks, addr) {
+        Some(spot) => {
+            let bytes = &blocks[spot.block].bytes[spot.before..];
+            if len <= bytes.len() as u64 {
+                Ok(&bytes[..len as usize])
+            } else {
+                Err(addr + bytes.len() as u64)
+            }
         }
-        block.read(addr, room);
+        None if len == 0 => Ok(&[]),
+        None => Err(addr),
     }
 }
 
-/// Reads the bytes from an address on.
-pub fn copy_out(blocks: &[Block], addr: u64, room: &mut [u8])
-    requires apart { AreApart 0 blocks.now }
-    requires covered { CoversBy (byte_in blocks.now) addr (length room.old) }
-    ensures { HoldsBy (byte_in blocks.now) addr room.new }
+/// Writes the source into the target from a place on.
+#[inline]
+fn splice(target: &mut [u8], at: usize, source: &[u8])
+    requires { at + length source.now ≤ length target.old }
+    ensures { (k : ℕ) → k < length target.old
+        → slice_index target.new k ≡ spliced_byte target.old at source.now k }
 {
-    copy_from(&blocks[first_after(blocks, addr)..], addr, room);
+    target[at..at + source.len()].copy_from_slice(source);
 }
 
-/// Writes the bytes from an address on, where a block has them.
-fn copy_into(blocks: &mut [Block], addr: u64, bytes: &[u8])
+/// Writes the bytes from an address on, or tells the first address of the range that no block has.
+#[inline]
+pub fn write_at(blocks: &mut [Block], addr: u64, bytes: &[u8]) -> Result<(), u64>
     requires { AreApart 0 blocks.old }
-    ensures { AreWritten blocks.old blocks.new addr bytes.now }
+    ensures covered { OnOk result (CoversBy (byte_in blocks.old) addr (length bytes.now)) }
+    ensures written { OnOk result (AreWritten blocks.old blocks.new addr bytes.now) }
+    ensures bad { IfErr result (IsFirstBadBy (byte_in blocks.old) addr (length bytes.now)) }
+    ensures unchanged { OnErr result (blocks.new ≡ blocks.old) }
 {
-    let end = addr.saturating_add(bytes.len() as u64);
-    for block in blocks {
-        if block.addr >= end {
-            return;
+    match spot_of(blocks, addr) {
+        Some(spot) => {
+            let left = blocks[spot.block].bytes.len() - spot.before;
+            if bytes.len() > left {
+                return Err(addr + left as u64);
+            }
+            splice(&mut blocks[spot.block].bytes, spot.before, bytes);
+            Ok(())
         }
-        block.write(addr, bytes);
+        None if bytes.is_empty() => Ok(()),
+        None => Err(addr),
     }
-}
-
-/// Writes the bytes from an address on, where a block has them.
-pub fn copy_in(blocks: &mut [Block], addr: u64, bytes: &[u8])
-    requires { AreApart 0 blocks.old }
-    ensures { AreWritten blocks.old blocks.new addr bytes.now }
-{
-    let first = first_after(blocks, addr);
-    copy_into(&mut blocks[first..], addr, bytes);
 }

@@ -54,6 +54,33 @@ fn reads_and_writes_over_touching_regions(rt: HostRuntime) -> Result<(), Fail> {
 }
 
 #[test]
+fn bytes_and_stretches_over_touching_regions(rt: HostRuntime) -> Result<(), Fail> {
+    let regions = [region(16, 8), region(4, 2), region(8, 8)];
+    let mut memory = Memory::new(rt.alloc(), &regions)?;
+    memory.write(14, &[1, 2, 3]).map_err(|_| "inside")?;
+    for (addr, len, bytes) in [
+        (14, 3, Ok(&[1u8, 2, 3][..])),
+        (15, 2, Ok(&[2, 3])),
+        (4, 2, Ok(&[0, 0])),
+        (24, 0, Ok(&[])),
+        (22, 3, Err(OutOfRange { first_bad: 24 })),
+        (5, 4, Err(OutOfRange { first_bad: 6 })),
+    ] {
+        assert_eq!(rt; memory.bytes(addr, len), bytes, "{addr} {len}");
+    }
+    for (addr, stretch) in [
+        (7, None),
+        (8, Some(region(8, 16))),
+        (23, Some(region(8, 16))),
+        (24, None),
+        (5, Some(region(4, 2))),
+    ] {
+        assert_eq!(rt; memory.stretch_around(addr), stretch, "{addr}");
+    }
+    Ok(())
+}
+
+#[test]
 fn ranges_that_would_wrap(rt: HostRuntime) -> Result<(), Fail> {
     let memory = Memory::new(rt.alloc(), &[region(u64::MAX - 2, 2), region(16, 8)])?;
     let mut room = [7u8; 8];

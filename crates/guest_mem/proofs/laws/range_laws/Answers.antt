@@ -1,4 +1,4 @@
-use Rattle.guest_mem.proofs.Gaps.{told, covers-part, covers-fits}
+use Rattle.guest_mem.proofs.Gaps.{told, covers-part, covers-fits, covers-stretch}
 use Rattle.guest_mem.proofs.laws.range_laws.Goals as goal
 
 pub returns-clause-told : goal.returns-clause-told
@@ -9,3 +9,6 @@ returns-clause-parts c = covers-part
 
 pub returns-clause-fits : goal.returns-clause-fits
 returns-clause-fits c = covers-fits
+
+pub returns-clause-stretches : goal.returns-clause-stretches
+returns-clause-stretches c = covers-stretch
