@@ -5,3 +5,5 @@ pub mod Walks
 pub mod Endings
 pub mod Usable
 pub mod Functions
+pub mod Stretches
+pub mod Masks

@@ -1,13 +1,17 @@
 -- What a walk keeps, and how it goes on.
-use Rattle.std.proofs.Common.{◌≡◌, ℕ, ◌+◌, ◌*◌, ◌<◌, ◌≤◌, Bool, true, false, cond, ◌||◌, List, [], ◌∷◌, ◌++◌, length, take, filter, Some, None, refl, sym, ap, ◌∙◌, subst, arith, append_assoc, length-append}
+use Rattle.std.proofs.Common.{◌≡◌, ℕ, zero, suc, ◌+◌, ◌*◌, ◌<◌, ◌≤◌, Bool, true, false, cond, ◌||◌, List, [], ◌∷◌, ◌++◌, length, take, filter, slice_range, Option, Some, None, refl, sym, ap, ◌∙◌, subst, arith, append_assoc, length-append}
 use Rattle.std.proofs.lemmas.List.{append-nil, take_all}
+use Rattle.guest_mem.specs.Memory.{bytes_at}
+use Rattle.guest_mem.specs.Laws.{PartsAreBytes}
+use Rattle.vring_split.specs.declared.desc.Desc.{Desc}
 use Rattle.vring_split.specs.declared.fault.RingFault.{RingFault}
 use Rattle.vring_split.specs.declared.layout.Layout.{Layout}
 use Rattle.vring_split.specs.declared.segment.Segment.{Segment}
-use Rattle.vring_split.specs.Split.{has_next, is_writable, is_indirect}
+use Rattle.vring_split.specs.Split.{desc_of, has_next, is_writable, is_indirect}
 use Rattle.vring_walk.specs.declared.rules.Met.{Met}
 use Rattle.vring_walk.specs.Chain.{Look, Cover, Place, desc_at, head_place, table_of, next_place, segment_of, segments_of, seen_in, any_writable, first_broken, rules_for, fault_at, Reaches, IsFirstFault}
 use Rattle.vring_walk.specs.Fetch.{TakesChain}
+use Rattle.vring_walk.specs.Stretch.{table_bytes}
 use Rattle.vring_walk.proofs.KeptRules.{keeps_rules}
 use Rattle.vring_walk.proofs.Paths.{seen_more, short}
 use Rattle.vring_walk.proofs.Rooms.{take-take_append, segments_more}
@@ -32,6 +36,20 @@ any_one (x ∷ xs) s = or_assoc x.write (any_writable xs) s.write ∙ ap (λ b. 
     or_assoc true b c = refl
     or_assoc false b c = refl
 
+-- so many bytes are looked up
+pub bytes_length : (look : Look) (a n : ℕ) → length (bytes_at look a n) ≡ n
+unfolding bytes_at
+bytes_length look a zero = refl
+bytes_length look a (suc n) = ap suc (bytes_length look (a + 1) n)
+
+-- the descriptor at an entry of a table, read from the table's bytes
+pub desc_in : PartsAreBytes → (look : Look) (p : Place) (bytes : List ℕ) → bytes ≡ table_bytes look p.table → p.index < p.table.entries
+    → desc_of (slice_range bytes (16 * p.index) (16 * p.index + 16)) ≡ desc_at look p
+unfolding desc_at
+desc_in parts look p bytes same inside =
+    ap (λ (xs : List ℕ). desc_of (slice_range xs (16 * p.index) (16 * p.index + 16))) same
+    ∙ ap desc_of (parts look p.table.addr (16 * p.table.entries) (16 * p.index) 16 (omega arith))
+
 -- a walk from a head, with a room that had old segments
 module _ (look : Look) (covers : Cover) (l : Layout) (head : ℕ) (old : List Segment) where
   -- a path came to an entry of a table that lies in the memory; this was met on it, and the room has what fits
@@ -49,6 +67,24 @@ module _ (look : Look) (covers : Cover) (l : Layout) (head : ℕ) (old : List Se
   -- the answer of the rules is that of the path
   same_fault : (p : Place) (met : Met) (room : List Segment) (steps : ℕ) (w : Walked p met room steps) → first_broken (broken_after look covers l p met) ≡ fault_at look covers l w.behind p
   same_fault p met room steps w = λ i. first_broken (rules_for covers l p.table (desc_at look p) (w.seen_is i) (w.count_is i) (w.writable_is i))
+
+  -- the rules' answer to a descriptor that was read, and to whether its range has bytes
+  pub told_of : (p : Place) (met : Met) (d : Desc) (mapped : Bool) (o : Option RingFault) → d ≡ desc_at look p → mapped ≡ covers d.addr d.len
+      → o ≡ first_broken (rules_for (λ a n. mapped) l p.table d met.seen met.count met.writable)
+      → o ≡ first_broken (broken_after look covers l p met)
+  told_of p met d mapped o same known told =
+      told
+      ∙ ap (λ (b : Bool). first_broken (rules_for (λ a n. b) l p.table d met.seen met.count met.writable)) known
+      ∙ ap (λ (x : Desc). first_broken (rules_for covers l p.table x met.seen met.count met.writable)) same
+
+  -- what was met, given in other words
+  pub in_words : (p q : Place) (met same : Met) (room other : List Segment) (steps : ℕ) → Walked p met room steps
+      → q ≡ p → same ≡ met → other ≡ room → Walked q same other steps
+  in_words p q met same room other steps w at are is =
+      let P : Place → Type 0 = λ r. Walked r met room steps in
+      let Q : Met → Type 0 = λ m. Walked q m room steps in
+      let R : List Segment → Type 0 = λ xs. Walked q same xs steps in
+      subst R (sym is) (subst Q (sym are) (subst P (sym at) w))
 
   -- a rule that is broken is the path's first fault
   pub walk_fails : (p : Place) (met : Met) (room : List Segment) (steps : ℕ) (f : RingFault) → Walked p met room steps → Some f ≡ first_broken (broken_after look covers l p met) → IsFirstFault look covers l head f

@@ -4,3 +4,4 @@ pub mod Fetched
 pub mod Spread
 pub mod Laws
 pub mod Examples
+pub mod Stretch

@@ -13,6 +13,7 @@
 
 mod good;
 mod laws;
+mod near;
 mod read;
 mod rules;
 mod segments;

@@ -1,36 +1,56 @@
-//! Fields and descriptors of a ring, read from memory that is known to be there.
-ghost use Rattle.std.specs.Prelude.{◌≡◌, ◌*◌, ◌<◌, IsTrue};
+//! Fields and descriptors of a ring, read from bytes that were found.
+ghost use Rattle.std.specs.Prelude.{◌≡◌, ◌+◌, ◌*◌, ◌≤◌, IsTrue, length, slice_range};
 ghost use Rattle.std.specs.Int.{w16, from_le_bytes};
 ghost use Rattle.guest_mem.specs.Memory.{byte_at, bytes_at, covers};
-ghost use Rattle.vring_walk.specs.Chain.{desc_at};
+ghost use Rattle.vring_split.specs.Split.{avail_len, desc_of};
+ghost use Rattle.vring_walk.specs.Stretch.{table_bytes};
 
 use crate::table::Table;
-use guest_mem::{Memory, range_laws};
-use vring_split::{Desc, le16_of};
+use guest_mem::Memory;
+use vring_split::{Desc, Layout, avail_len, desc_len, le16_of};
 
-/// The number of a field.
-pub fn le16_at(mem: &Memory, addr: u64) -> u16
-    requires { IsTrue (covers mem.now.regions addr 2) }
-    ensures { result ≡ from_le_bytes w16 (bytes_at (byte_at mem.now) addr 2) }
+/// The bytes of a table.
+#[inline]
+pub fn table_bytes<'a>(mem: &'a Memory, table: &Table) -> &'a [u8]
+    requires { IsTrue (covers mem.now.regions table.now.addr (16 * table.now.entries)) }
+    ensures { result.now ≡ table_bytes (byte_at mem.now) table.now }
 {
-    let mut bytes = [0u8; 2];
-    match mem.read(addr, &mut bytes) {
-        Ok(()) => le16_of(&bytes),
+    match mem.bytes(table.addr, desc_len(table.entries)) {
+        Ok(bytes) => bytes,
         Err(_) => unreachable!(),
     }
 }
 
-/// The descriptor at an entry of a table.
-#[tactic(auto, unfolding(crate::specs::Chain::desc_at))]
-pub fn desc_at(mem: &Memory, table: &Table, index: u16) -> Desc
-    requires inside { index < table.now.entries }
-    requires lies { IsTrue (covers mem.now.regions table.now.addr (16 * table.now.entries)) }
-    ensures { result ≡ desc_at (byte_at mem.now) (record { table = table.now; index = index }) }
+/// The bytes of the available ring.
+#[inline]
+pub fn avail_bytes<'a>(mem: &'a Memory, ring: &Layout) -> &'a [u8]
+    requires { IsTrue (covers mem.now.regions ring.now.avail (avail_len ring.now.num)) }
+    ensures { result.now ≡ bytes_at (byte_at mem.now) ring.now.avail (avail_len ring.now.num) }
 {
-    range_laws();
-    let mut bytes = [0u8; 16];
-    match mem.read(table.addr + 16 * u64::from(index), &mut bytes) {
-        Ok(()) => Desc::of(&bytes),
+    match mem.bytes(ring.avail, avail_len(ring.num)) {
+        Ok(bytes) => bytes,
         Err(_) => unreachable!(),
     }
+}
+
+/// The number of the field that starts at a place of these bytes.
+#[inline]
+pub fn le16_in(bytes: &[u8], at: usize) -> u16
+    requires { at + 2 ≤ length bytes.now }
+    ensures { result ≡ from_le_bytes w16 (slice_range bytes.now at (at + 2)) }
+{
+    le16_of(bytes[at..].first_chunk::<2>().unwrap())
+}
+
+/// The descriptor at an entry of the table that has these bytes.
+#[inline]
+pub fn entry(bytes: &[u8], index: u16) -> Desc
+    requires { 16 * index + 16 ≤ length bytes.now }
+    ensures { result ≡ desc_of (slice_range bytes.now (16 * index) (16 * index + 16)) }
+{
+    Desc::of(
+        bytes[16 * usize::from(index)..]
+            .first_chunk::<16>()
+            .unwrap(),
+    )
 }

@@ -1,17 +1,15 @@
 //! The rules for a descriptor.
-ghost use Rattle.std.specs.Prelude.{◌≡◌, ◌||◌};
-ghost use Rattle.guest_mem.specs.Memory.{covers};
+ghost use Rattle.std.specs.Prelude.{◌≡◌, ◌+◌, ◌<◌, ◌^◌, ◌||◌, false};
 ghost use Rattle.vring_walk.specs.Chain.{first_broken, rules_for, is_bad_length};
 
 use crate::segments::MAX_SEGMENTS;
 use crate::table::Table;
-use guest_mem::Memory;
 use vring_split::{Desc, Layout, RingFault};
 
 /// How many bytes an indirect table has at most.
 const MAX_TABLE_LEN: u32 = 16_384;
 
-//// What a path has met so far.
+/// What a path has met so far.
 #[derive(Clone, Copy)]
 pub struct Met {
     /// How many descriptors of the same table.
@@ -22,6 +20,37 @@ pub struct Met {
     pub writable: bool,
 }
 
+impl Met {
+    /// At the start of a path.
+    pub fn nothing() -> Met
+        ensures { result ≡ record { seen = 0; count = 0; writable = false } }
+    {
+        Met {
+            seen: 0,
+            count: 0,
+            writable: false,
+        }
+    }
+
+    /// With one descriptor more, which is a segment.
+    #[inline]
+    pub fn with(&self, write: bool) -> Met
+        requires seen { self.now.seen + 1 < 2 ^ 16 }
+        requires count { self.now.count + 1 < 2 ^ 16 }
+        ensures { result ≡ record {
+          seen = self.now.seen + 1;
+          count = self.now.count + 1;
+          writable = self.now.writable || write;
+        } }
+    {
+        Met {
+            seen: self.seen + 1,
+            count: self.count + 1,
+            writable: self.writable | write,
+        }
+    }
+}
+
 /// Whether no table has this length.
 fn is_bad_length(len: u32) -> bool
     ensures { result ≡ is_bad_length len }
@@ -29,15 +58,16 @@ fn is_bad_length(len: u32) -> bool
     len == 0 || len % 16 != 0 || len > MAX_TABLE_LEN
 }
 
-/// The first rule that a descriptor breaks.
+/// The first rule that a descriptor breaks, whose range is mapped or not.
+#[inline]
 pub fn broken_rule(
-    mem: &Memory,
     ring: &Layout,
     table: &Table,
     desc: &Desc,
     met: &Met,
+    mapped: bool,
 ) -> Option<RingFault>
-    ensures { result ≡ first_broken (rules_for (covers mem.now.regions) ring.now table.now desc.now
+    ensures { result ≡ first_broken (rules_for (λ _ _. mapped) ring.now table.now desc.now
         met.now.seen met.now.count met.now.writable) }
 {
     let indirect = desc.is_indirect();
@@ -57,7 +87,7 @@ pub fn broken_rule(
     if indirect && is_bad_length(desc.len) {
         return Some(RingFault::IndirectLength);
     }
-    if !mem.covers(desc.addr, u64::from(desc.len)) {
+    if !mapped {
         return Some(RingFault::Unmapped {
             addr: desc.addr,
             len: desc.len,

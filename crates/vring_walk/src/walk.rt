@@ -2,16 +2,17 @@
 ghost use Rattle.std.specs.Prelude.{◌≡◌, ◌<◌, ◌≤◌, length, take, IfOk, IfErr};
 ghost use Rattle.guest_mem.specs.Memory.{byte_at, covers};
 ghost use Rattle.vring_split.specs.Good.{IsGoodFor};
-ghost use Rattle.vring_walk.specs.Chain.{IsFirstFault};
+ghost use Rattle.vring_walk.specs.Chain.{segment_of, IsFirstFault};
 ghost use Rattle.vring_walk.specs.Fetch.{avail_idx, avail_head, Fetches, TakesChain};
 ghost use Rattle.vring_walk.specs.Fetched.{AppendsFetched};
 
-use crate::rules::Met;
+use crate::near::covers_near;
+use crate::read;
+use crate::rules::{Met, broken_rule};
 use crate::segments::{MAX_SEGMENTS, Segments};
 use crate::table::Table;
-use crate::{read, rules};
-use guest_mem::{Memory, range_laws};
-use vring_split::{Layout, RingFault, Segment};
+use guest_mem::{Memory, Region, byte_laws};
+use vring_split::{Desc, Layout, RingFault, Segment};
 
 /// How many entries an indirect table has at most.
 const MAX_ENTRIES: u32 = 1024;
@@ -32,9 +33,21 @@ pub enum Fetched {
     Crowded,
 }
 
+/// The segment that a descriptor is.
+#[inline]
+fn segment_of(desc: &Desc) -> Segment
+    ensures { result ≡ segment_of desc.now }
+{
+    Segment {
+        addr: desc.addr,
+        len: desc.len,
+        write: desc.is_writable(),
+    }
+}
+
 /// Follows the path from a head: how many segments its chain has, of which the room takes those that
 /// fit, or the first rule that the path breaks. It looks at no more than the queue size and 1,025
-/// descriptors.
+/// descriptors. Each table is found once, and `near` is the stretch in which the last range lay.
 fn walk(mem: &Memory, ring: &Layout, head: u16, room: &mut Segments) -> Result<u16, RingFault>
     requires good { IsGoodFor ring.now (covers mem.now.regions) }
     requires inside { head < ring.now.num }
@@ -44,35 +57,28 @@ fn walk(mem: &Memory, ring: &Layout, head: u16, room: &mut Segments) -> Result<u
     ensures fault { IfErr result (IsFirstFault (byte_at mem.now) (covers mem.now.regions) ring.now head) }
     ensures kept { take (length room.old) room.new ≡ room.old }
 {
+    byte_laws();
     let mut table = Table::own(ring);
+    let mut bytes = read::table_bytes(mem, &table);
+    let mut near = Region { addr: 0, len: 0 };
+    let mut met = Met::nothing();
     let mut index = head;
-    let mut met = Met {
-        seen: 0,
-        count: 0,
-        writable: false,
-    };
     for _ in 0..u32::from(ring.num) + MAX_ENTRIES + 1 {
-        let desc = read::desc_at(mem, &table, index);
-        if let Some(fault) = rules::broken_rule(mem, ring, &table, &desc, &met) {
+        let desc = read::entry(bytes, index);
+        let mapped = covers_near(mem, &mut near, desc.addr, u64::from(desc.len));
+        if let Some(fault) = broken_rule(ring, &table, &desc, &met, mapped) {
             return Err(fault);
         }
         if desc.is_indirect() {
             table = Table::of(&desc);
+            bytes = read::table_bytes(mem, &table);
             index = 0;
             met.seen = 0;
             continue;
         }
-        let write = desc.is_writable();
-        room.add(Segment {
-            addr: desc.addr,
-            len: desc.len,
-            write,
-        });
-        met = Met {
-            seen: met.seen + 1,
-            count: met.count + 1,
-            writable: met.writable | write,
-        };
+        let segment = segment_of(&desc);
+        room.add(segment);
+        met = met.with(segment.write);
         if !desc.has_next() {
             return Ok(met.count);
         }
@@ -103,14 +109,13 @@ fn take_available(mem: &Memory, ring: &Layout, last: u16, room: &mut Segments) -
     ensures few { length room.old ≤ 1024 }
 {
     let kept = room.list().len();
-    let index = available_index(mem, ring);
+    let (index, head) = available(mem, ring, last);
     if index == last {
         return Fetched::Nothing;
     }
     if index.wrapping_sub(last) > ring.num {
         return Fetched::Bad(RingFault::AvailJump);
     }
-    let head = available_head(mem, ring, last);
     if head >= ring.num {
         return Fetched::Bad(RingFault::HeadRange);
     }
@@ -130,22 +135,17 @@ fn take_available(mem: &Memory, ring: &Layout, last: u16, room: &mut Segments) -
     }
 }
 
-/// The available index.
-#[tactic(auto, unfolding(crate::specs::Fetch::avail_idx))]
-fn available_index(mem: &Memory, ring: &Layout) -> u16
+/// The available index, and the head in the available ring's entry of a position.
+#[inline]
+#[tactic(auto, unfolding(crate::specs::Fetch::avail_idx, crate::specs::Fetch::avail_head))]
+fn available(mem: &Memory, ring: &Layout, position: u16) -> (u16, u16)
     requires { IsGoodFor ring.now (covers mem.now.regions) }
-    ensures { result ≡ avail_idx (byte_at mem.now) ring.now }
+    ensures index { result.0 ≡ avail_idx (byte_at mem.now) ring.now }
+    ensures head { result.1 ≡ avail_head (byte_at mem.now) ring.now position }
 {
-    range_laws();
-    read::le16_at(mem, ring.avail_idx_addr())
-}
-
-/// The head in the available ring's entry of a position.
-#[tactic(auto, unfolding(crate::specs::Fetch::avail_head))]
-fn available_head(mem: &Memory, ring: &Layout, position: u16) -> u16
-    requires { IsGoodFor ring.now (covers mem.now.regions) }
-    ensures { result ≡ avail_head (byte_at mem.now) ring.now position }
-{
-    range_laws();
-    read::le16_at(mem, ring.avail_entry_addr(position))
+    byte_laws();
+    let bytes = read::avail_bytes(mem, ring);
+    let index = read::le16_in(bytes, 2);
+    let head = read::le16_in(bytes, 4 + 2 * usize::from(position & (ring.num - 1)));
+    (index, head)
 }

@@ -1,5 +1,5 @@
 //! How long a fetch takes: chains of 1, 16 and 256 descriptors, along NEXT and through an indirect
-//! table, in a memory of 1 and of 64 regions.
+//! table, in a memory of 1 region, of 64 that touch, and of 64 with gaps between them.
 //!
 //! With no argument it prints what each fetch found; with one it prints the time as well.
 #![tactic(auto)]
@@ -16,33 +16,47 @@ const NEXT: u16 = 1;
 
 const INDIRECT: u16 = 4;
 
-/// How many bytes the memory has, in however many regions.
-const BYTES: u64 = 1_048_576;
-/// Where the indirect table starts.
-const TABLE: u64 = 16_384;
-/// Where the first segment starts; each has 2,048 bytes.
-const DATA: u64 = 65_536;
+/// How many pieces the memory has, each of so many bytes: they are one region or one region each.
+const PIECES: u64 = 64;
+
+const PIECE: u64 = 16_384;
+/// In which piece the indirect table starts, and in which the first segment; a piece has eight segments.
+const TABLE: u64 = 1;
+
+const DATA: u64 = 4;
 /// How often a chain is fetched.
 const ROUNDS: u32 = 20_000;
 
-fn memory(alloc: Global, regions: u64) -> Result<Memory> {
+/// How the memory lies.
+#[derive(Clone, Copy)]
+struct Shape {
+    name: &'static str,
+    regions: u64,
+    /// How many bytes lie between the starts of two pieces.
+    stride: u64,
+}
+
+fn memory(alloc: Global, shape: &Shape) -> Result<Memory> {
     let mut list = Vec::new(alloc);
-    let len = BYTES.checked_div(regions).context("no region")?;
-    for i in 0..regions {
+    let pieces = PIECES.checked_div(shape.regions).context("no region")?;
+    for i in 0..shape.regions {
         list.push(Region {
-            addr: i.saturating_mul(len),
-            len,
+            addr: i.saturating_mul(shape.stride),
+            len: pieces.saturating_mul(PIECE),
         })?;
     }
     Memory::new(alloc, &list).context("regions")
 }
 
 // A chain of so many descriptors, in the table that starts at an address.
-fn write_chain(mem: &mut Memory, at: u64, descriptors: u16) {
+fn write_chain(mem: &mut Memory, shape: &Shape, at: u64, descriptors: u16) {
     for i in 0..descriptors {
         let last = i + 1 == descriptors;
+        let piece = DATA + u64::from(i / 8);
         let desc = Desc {
-            addr: DATA + 2048 * u64::from(i),
+            addr: piece
+                .saturating_mul(shape.stride)
+                .saturating_add(2048 * u64::from(i % 8)),
             len: 2048,
             flags: if last { 0 } else { NEXT },
             next: i + 1,
@@ -51,9 +65,9 @@ fn write_chain(mem: &mut Memory, at: u64, descriptors: u16) {
     }
 }
 
-fn refer_to_table(mem: &mut Memory, descriptors: u16) {
+fn refer_to_table(mem: &mut Memory, table: u64, descriptors: u16) {
     let desc = Desc {
-        addr: TABLE,
+        addr: table,
         len: 16 * u32::from(descriptors),
         flags: INDIRECT,
         next: 0,
@@ -76,7 +90,7 @@ fn fetch_often(mem: &Memory, ring: &Layout, room: &mut Segments, rounds: u32) ->
 
 fn run<R: AllocGlobal + Print + std::rt::Clock>(
     rt: &R,
-    regions: u64,
+    shape: &Shape,
     descriptors: u16,
     table: bool,
     timed: bool,
@@ -90,14 +104,15 @@ fn run<R: AllocGlobal + Print + std::rt::Clock>(
         event: false,
         rx: false,
     };
-    let mut mem = memory(rt.alloc(), regions)?;
+    let mut mem = memory(rt.alloc(), shape)?;
     let mut room = Segments::new(rt.alloc())?;
     let _ = mem.write(4098, &le16_bytes_of(1));
     if table {
-        write_chain(&mut mem, TABLE, descriptors);
-        refer_to_table(&mut mem, descriptors);
+        let at = TABLE.saturating_mul(shape.stride);
+        write_chain(&mut mem, shape, at, descriptors);
+        refer_to_table(&mut mem, at, descriptors);
     } else {
-        write_chain(&mut mem, 0, descriptors);
+        write_chain(&mut mem, shape, 0, descriptors);
     }
     let way = if table { "table" } else { "next" };
     let start = Instant::now(rt)?;
@@ -105,19 +120,36 @@ fn run<R: AllocGlobal + Print + std::rt::Clock>(
     let segments = fetch_often(&mem, &ring, &mut room, rounds)?;
     let each = start.elapsed(rt)?.as_nanos() / u128::from(ROUNDS);
     if timed {
-        rt.println(format_args!("regions {regions} {way} segments {segments}: {each} ns"))?;
+        rt.println(format_args!("{} {way} segments {segments}: {each} ns", shape.name))?;
     } else {
-        rt.println(format_args!("regions {regions} {way} segments {segments}"))?;
+        rt.println(format_args!("{} {way} segments {segments}", shape.name))?;
     }
     Ok(())
 }
 
 fn main(rt: HostRuntime) -> Result<()> {
     let timed = env::args(&rt)?.count() > 1;
-    for regions in [1, 64] {
+    let shapes = [
+        Shape {
+            name: "regions 1",
+            regions: 1,
+            stride: PIECE,
+        },
+        Shape {
+            name: "regions 64",
+            regions: 64,
+            stride: PIECE,
+        },
+        Shape {
+            name: "apart 64",
+            regions: 64,
+            stride: PIECE + 4096,
+        },
+    ];
+    for shape in &shapes {
         for table in [false, true] {
             for descriptors in [1, 16, 256] {
-                run(&rt, regions, descriptors, table, timed)?;
+                run(&rt, shape, descriptors, table, timed)?;
             }
         }
     }

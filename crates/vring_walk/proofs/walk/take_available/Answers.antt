@@ -12,4 +12,4 @@ returns-then-kept-from-le-MAX_SEGMENTS-clause-answer c =
     let fits : length c.args.room.now + length found.0 ≤ 1024 = omega (arith, c.if-kept-from-le-MAX_SEGMENTS.true, c.from.ensures) in
     let whole : length (c.args.room.now ++ found.0) ≤ 1024 = omega (arith, length-append c.args.room.now found.0) in
     let available : IsAvailable (byte_at c.args.mem.now) c.args.ring.now c.args.last = search rules in
-    (found.0, record { available = available; at = c.available_head-head.ensures; inside = c.if-head-ring.false; chain = found.1 }, fits, found.3 ∙ take_all 1024 (c.args.room.now ++ found.0) whole)
+    (found.0, record { available = available; at = c.available-index.ensures.head; inside = c.if-head-ring.false; chain = found.1 }, fits, found.3 ∙ take_all 1024 (c.args.room.now ++ found.0) whole)
