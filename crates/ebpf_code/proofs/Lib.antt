@@ -5,3 +5,4 @@ pub mod Whole
 pub mod Spells
 pub mod FirstFault
 pub mod Sound
+pub mod AtPlaces

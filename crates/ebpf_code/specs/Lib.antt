@@ -6,3 +6,4 @@ pub mod Sets
 pub mod Program
 pub mod FirstFault
 pub mod Sound
+pub mod Step

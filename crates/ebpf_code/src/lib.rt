@@ -2,7 +2,8 @@
 //!
 //! A `Program` is made by `accept` alone, which answers it or the first fault of the bytes. To a
 //! contract a program is the list of its bytes, and it has no fault. Its slots, one for each 8 bytes,
-//! say which instruction begins there, with its operation and its registers.
+//! say which instruction begins there, with its operation and its registers; its steps are the same
+//! instructions with their operands decoded, as the crate `ebpf_run` runs them.
 //!
 //! `specs/Instruction.antt` has the encoding and the table of the instruction set, from which the
 //! faults of `specs/Faults.antt` and the steps of the crate `ebpf_run` are read.
@@ -19,6 +20,7 @@ mod pass;
 mod program;
 mod register;
 mod set;
+mod step;
 
 pub use encoding::Encoding;
 pub use fault::{CodeFault, CodeWhy, OrMemory};
@@ -29,6 +31,7 @@ pub use operation::{
 };
 pub use program::{Program, accept, encode};
 pub use register::Register;
+pub use step::{Code, Step};
 
 #[cfg(test)]
 mod tests;

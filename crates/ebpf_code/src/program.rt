@@ -4,12 +4,14 @@ ghost use Rattle.std.specs.Prelude.{◌≡◌, ◌*◌, ◌++◌, length, IfOk, 
 ghost use Rattle.ebpf_code.specs.Faults.{NoFault, IsFirstFault, IfFault};
 ghost use Rattle.ebpf_code.specs.Program.{AreSlots};
 ghost use Rattle.ebpf_code.specs.Sound.{IsSound};
+ghost use Rattle.ebpf_code.specs.Step.{AreSteps};
 ghost use Rattle.ebpf_code.specs.Spelling.{slot_bytes, spelling};
 
 use crate::check::second_slots;
 use crate::fault::{CodeFault, CodeWhy, OrMemory};
 use crate::instruction::{Instruction, Slot};
 use crate::pass::slots_of;
+use crate::step::{Step, steps_of};
 use std::alloc::{AllocError, Global};
 use std::marker::Model;
 
@@ -17,18 +19,20 @@ use std::marker::Model;
 #[derive(Drop)]
 pub struct Program {
     slots: Vec<Slot>,
+    steps: Vec<Step>,
 }
 
 impl Model for Program {
     ghost use Rattle.std.specs.Prelude.{ℕ, List};
     ghost use Rattle.ebpf_code.specs.Spelling.{spelling};
     ghost use Rattle.ebpf_code.specs.Program.{IsProgram};
+    ghost use Rattle.ebpf_code.specs.Step.{AreDecoded};
 
     ghost Value = { List ℕ };
 
     ghost view = { λ p. spelling p.slots.items };
 
-    ghost invariant = { λ p. IsProgram p.slots.items };
+    ghost invariant = { λ p. IsProgram p.slots.items × AreDecoded p.slots.items p.steps.items };
 }
 
 impl Program {
@@ -46,6 +50,14 @@ impl Program {
         ensures runs { IsSound self.now }
     {
         &self.slots
+    }
+
+    /// The steps, one for each slot, decoded when the program was accepted.
+    pub fn steps(&self) -> &[Step]
+        ensures steps { AreSteps self.now result.now }
+        ensures runs { IsSound self.now }
+    {
+        &self.steps
     }
 }
 
@@ -69,7 +81,8 @@ pub fn accept(alloc: Global, bytes: &[u8]) -> Result<Program, OrMemory<CodeFault
     }
     let seconds = second_slots(alloc, bytes)?;
     let slots = slots_of(alloc, bytes, &seconds)?;
-    Ok(Program { slots })
+    let steps = steps_of(alloc, &slots)?;
+    Ok(Program { slots, steps })
 }
 
 /// The bytes of a program.

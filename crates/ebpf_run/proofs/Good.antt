@@ -1,9 +1,7 @@
 -- A program without faults is never stuck: along its paths each register that is read is set.
-use Rattle.std.proofs.Common.{◌≡◌, ℕ, ◌+◌, ◌*◌, ◌^◌, ◌<◌, List, [], ◌∷◌, length, get_or, Bool, true, false, not, ◌&&◌, ◌||◌, Option, Some, None, refl, sym, ap, ◌∙◌, subst, inl, inr, arith}
+use Rattle.std.proofs.Common.{◌≡◌, ℕ, ◌+◌, ◌*◌, ◌^◌, ◌<◌, List, [], ◌∷◌, length, Bool, true, false, not, ◌&&◌, ◌||◌, Option, Some, None, refl, sym, ap, ◌∙◌, subst, inl, inr}
 use Rattle.std.proofs.lemmas.Bool.{both_ways, cases_Bool, or_left, or_right, and_from, eq-eqb, cond-true, cond-false}
-use Rattle.std.proofs.lemmas.Option.{same_Some, slice_get-get_or}
 use Rattle.std.specs.Prelude.{◌==◌, nat_le, IsTrue, IsSomeAnd, if◌then◌else◌}
-use Rattle.std.specs.Option.{option_map}
 use Rattle.ebpf_code.specs.declared.encoding.Encoding.{Encoding}
 use Rattle.ebpf_code.specs.declared.operation.Source.{Source}
 use Rattle.ebpf_code.specs.declared.operation.Source.TheVariants as source
@@ -14,14 +12,12 @@ use Rattle.ebpf_code.specs.declared.operation.LoadMode.TheVariants.{Absolute, In
 use Rattle.ebpf_code.specs.declared.operation.Operation.{Operation}
 use Rattle.ebpf_code.specs.declared.operation.Operation.TheVariants.{Calculate, Negate, SwapBytes, LoadImmediate, LoadFrame, Jump, Branch, Exit}
 use Rattle.ebpf_code.specs.declared.instruction.Instruction.{Instruction}
-use Rattle.ebpf_code.specs.declared.instruction.Slot.{Slot}
-use Rattle.ebpf_code.specs.declared.instruction.Slot.TheVariants.{Begins, HighHalf}
-use Rattle.ebpf_code.specs.Program.{AreSlots}
 use Rattle.ebpf_code.specs.Sound.{IsSound}
 use Rattle.ebpf_code.specs.Encoding.{encoding_at}
 use Rattle.ebpf_code.specs.Instruction.{uses, is_exit, instruction, reads, writes, spoils, is_move, is_register, is_indirect, goes_forward, target, leads}
-use Rattle.ebpf_code.specs.Faults.{slot_count, is_second, instruction_at, slot_at, At, IsPath, is_set, set_after}
-use Rattle.ebpf_run.specs.Calculation.{low_half, sign_extended, calculated, negated, swapped, is_met}
+use Rattle.ebpf_code.specs.Faults.{slot_count, is_second, instruction_at, At, IsPath, is_set, set_after}
+use Rattle.ebpf_code.specs.Step.{sign_extended}
+use Rattle.ebpf_run.specs.Calculation.{low_half, calculated, negated, swapped, is_met}
 use Rattle.ebpf_run.specs.Meaning.{Registers, start, write, spoil, operand, left, index_of, low_sum, number_at, Outcome, with_value, loaded, act, act_at, step, Case}
 
 -- a place to which the steps lead, with registers of which those are set that are set on some path to it
@@ -35,19 +31,6 @@ pub record Good (program : List ℕ) (place : ℕ) (g : Registers) : Type 0 wher
 -- what is so of the instruction at a place is so at the place
 at_from : (program : List ℕ) (place : ℕ) (i : Instruction) (P : Instruction → Type 0) → instruction_at program place ≡ Some i → P i → At program place P
 at_from program place i P found h = subst (λ o. IsSomeAnd o P) (sym found) h
-
-pub slot_begins : (program : List ℕ) (place : ℕ) (s : Slot) → is_second program place ≡ false → slot_at program place ≡ Some s → (i : Instruction) × (s ≡ Begins i) × (instruction_at program place ≡ Some i)
-slot_begins program place s begins h =
-    go (instruction_at program place) refl (sym (cond-false (is_second program place) (Some (HighHalf (encoding_at program place).immediate)) (option_map Begins (instruction_at program place)) begins) ∙ h)
-  where
-    go : (o : Option Instruction) → instruction_at program place ≡ o → option_map Begins o ≡ Some s → (i : Instruction) × (s ≡ Begins i) × (instruction_at program place ≡ Some i)
-    go None e h = cc
-    go (Some i) e h = (i, same_Some s (Begins i) (sym h), e)
-
-pub slot_is : (program : List ℕ) (slots : List Slot) (place : ℕ) (s : Slot) → AreSlots program slots → place < slot_count program → get_or slots place s ≡ s → slot_at program place ≡ Some s
-slot_is program slots place s are lt h =
-    let within : place < length slots = let a = are.aligned in omega arith in
-    sym (are.each place within) ∙ slice_get-get_or slots place s within ∙ ap Some h
 
 module _ (program : List ℕ) (sound : IsSound program) (place : ℕ) (i : Instruction) (found : instruction_at program place ≡ Some i) where
   module _ (g : Registers) (good : Good program place g) where

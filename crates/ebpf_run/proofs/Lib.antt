@@ -1,3 +1,4 @@
 pub mod Follow
 pub mod Good
 pub mod Runs
+pub mod Decoded

@@ -169,6 +169,16 @@ going_next program frame numbers new place t p sound at f =
     (go_on program sound frame place at.registers at.good)
     (f at.registers at.holds)
 
+later_from : (program : List ℕ) (place p : ℕ) (o : Outcome) (new : List ℕ) → Case o (λ q g. (place < q) × Good program q g) (λ v. Unit {0}) → Follows o (At p) new → place < p
+later_from program place p (Goes q g) new c f = subst (λ x. place < x) (sym f.0) c.0
+later_from program place p (Ends v) new c f = absurd f
+later_from program place p Stuck new c f = absurd c
+
+-- the next place is later
+pub going_later : (program frame numbers new : List ℕ) (place t p : ℕ) → IsSound program → (at : Going program frame numbers place t) → ((g : Registers) → Holds numbers g → Follows (step program frame place g) (At p) new) → place < p
+going_later program frame numbers new place t p sound at f =
+    later_from program place p (step program frame place at.registers) new (go_on program sound frame place at.registers at.good) (f at.registers at.holds)
+
 last_from : (program frame numbers : List ℕ) (place t r : ℕ) (o : Outcome) (new : List ℕ) → ((n v : ℕ) → Case o (λ q g. EndsAfter program frame n q g v) (λ w. (n ≡ 0) × (w ≡ v)) → EndsAfter program frame (suc n + t) 0 (start frame) v) → Case o (λ q g. (place < q) × Good program q g) (λ v. Unit {0}) → Follows o (End r) new → EndsAfter program frame (t + 1) 0 (start frame) r
 last_from program frame numbers place t r (Goes q g) new on c f = absurd f
 last_from program frame numbers place t r (Ends v) new on c f =
@@ -186,8 +196,3 @@ pub going_few : (program frame numbers : List ℕ) (place t : ℕ) → Going pro
 going_few program frame numbers place t at =
     let a = below_grows program place (slot_count program) at.good.within at.good.begins in
     let b = at.few in omega arith
-
--- as many steps as slots can't have been taken
-pub going_short : (program frame numbers : List ℕ) (place t : ℕ) → Going program frame numbers place t → t < slot_count program
-going_short program frame numbers place t at =
-    let a = at.good.within in let b = at.few in let c = below_few program place in omega arith

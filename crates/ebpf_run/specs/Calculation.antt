@@ -15,10 +15,6 @@ use Rattle.ebpf_code.specs.declared.operation.ByteOrder.TheVariants.{Little, Big
 abbrev pub low_half : ℕ → ℕ
 low_half x = x % 2 ^ 32
 
--- the 32 bits of imm as 64 bits with the same sign
-abbrev pub sign_extended : ℕ → ℕ
-sign_extended n = if nat_lt n (2 ^ 31) then n else n + (2 ^ 64 - 2 ^ 32)
-
 -- 4.1 on 64 bits: results wrap, division is unsigned, and shifts take the low 6 bits of their count
 abbrev pub calculated_64 : Arithmetic → ℕ → ℕ → ℕ
 calculated_64 Add x y = (x + y) % 2 ^ 64

@@ -2,3 +2,4 @@ pub mod Calculation
 pub mod Meaning
 pub mod Machine
 pub mod Laws
+pub mod Step

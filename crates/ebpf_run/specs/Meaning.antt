@@ -15,7 +15,8 @@ use Rattle.ebpf_code.specs.declared.instruction.Instruction.{Instruction}
 use Rattle.ebpf_code.specs.Encoding.{encoding_at}
 use Rattle.ebpf_code.specs.Instruction.{target}
 use Rattle.ebpf_code.specs.Faults.{slot_count, is_second, instruction_at}
-use Rattle.ebpf_run.specs.Calculation.{low_half, sign_extended, calculated, negated, swapped, is_met}
+use Rattle.ebpf_code.specs.Step.{sign_extended}
+use Rattle.ebpf_run.specs.Calculation.{low_half, calculated, negated, swapped, is_met}
 
 -- ---- registers
 

@@ -16,16 +16,16 @@ pub fn run<L: Ledger>(program: &Program, frame: &[u8], steps: &mut Steps<L>) -> 
     ensures steps { EndsAfter program.now frame.now (steps.new - steps.old) 0 (start frame.now) result }
     ensures bound { steps.new ≤ steps.old + instruction_count program.now }
 {
+    let code = program.steps();
     let mut machine = Machine::start(frame);
     let mut place = 0;
-    for _turn in 0..program.slots().len() {
+    'turns: loop {
         steps.tick();
-        match machine.step(program, frame, place) {
+        match machine.step(&code[place], frame, place) {
             Next::At(next) => place = next,
             Next::End(result) => return result,
         }
     }
-    unreachable!()
 }
 
 /// The same, where nobody counts.
