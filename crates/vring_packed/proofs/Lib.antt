@@ -4,3 +4,4 @@ pub mod Ends
 pub mod Among
 pub mod Queues
 pub mod Runs
+pub mod Usable

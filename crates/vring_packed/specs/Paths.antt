@@ -1,5 +1,5 @@
 -- VIRTIO 1.2, 2.8.6 to 2.8.8 and 2.8.14: a packed ring's descriptor chains, and what a fetch finds, as relations.
-use Rattle.std.specs.Prelude.{◌≡◌, ℕ, ◌+◌, ◌<◌, ◌≤◌, ◌↔◌, true, false, List, [], ◌∷◌, ◌++◌, length, Ok, Err}
+use Rattle.std.specs.Prelude.{◌≡◌, ℕ, ◌+◌, ◌<◌, ◌≤◌, ◌↔◌, ◌≢◌, IsTrue, All, true, false, List, [], ◌∷◌, ◌++◌, length, Ok, Err}
 use Rattle.vring_split.specs.declared.fault.RingFault.{RingFault}
 use Rattle.vring_split.specs.declared.fault.RingFault.TheVariants.{TooLong}
 use Rattle.vring_split.specs.declared.segment.Segment.{Segment}
@@ -81,7 +81,26 @@ Fetches look covers l p old Crowded new =
     × IsChain look covers l p.at id count segments × (1024 < length old + length segments))
     × (new ≡ old)
 
+-- what a device may do with the segments of a chain: there are few, each lies in the memory, and each is written on a
+-- receive ring and read on a transmit ring
+pub record IsUsable (covers : Cover) (l : PackedLayout) (segments : List Segment) : Type 0 where
+  pub few : length segments ≤ 1024
+  pub lies : All (λ s. IsTrue (covers s.addr s.len)) segments
+  pub directed : All (λ s. s.write ≡ l.rx) segments
+
 -- What holds of them.
+
+-- the segments of every chain are usable
+abbrev pub ChainsAreUsable : Type 0
+ChainsAreUsable =
+    (look : Look) (covers : Cover) (l : PackedLayout) (at id count : ℕ) (segments : List Segment)
+    → IsChain look covers l at id count segments → IsUsable covers l segments
+
+-- a fetch into an empty room is never crowded
+abbrev pub EmptyIsNotCrowded : Type 0
+EmptyIsNotCrowded =
+    (look : Look) (covers : Cover) (l : PackedLayout) (p : Place) (new : List Segment) (answer : PackedFetched)
+    → AppendsFetched look covers l p [] answer new → answer ≢ Crowded
 
 -- a fetch answers and appends what the function gives, and nothing else
 abbrev pub FetchesAsFunction : Type 0

@@ -3,13 +3,15 @@
 use Rattle.std.specs.Prelude.{◌≡◌, ℕ, Bool, true, false, List, [], ◌∷◌, map}
 use Rattle.std.specs.Int.{w16, to_le_bytes}
 use Rattle.guest_mem.specs.Memory.{Contents, with_bytes}
+use Rattle.vring_packed.specs.declared.chain.PackedChain.{PackedChain}
 use Rattle.vring_packed.specs.declared.done.PackedDone.{PackedDone}
 use Rattle.vring_packed.specs.declared.fetched.PackedFetched.TheVariants.{Chain}
 use Rattle.vring_packed.specs.declared.layout.PackedLayout.{PackedLayout}
 use Rattle.vring_packed.specs.declared.place.Place.{Place}
+use Rattle.vring_packed.specs.Packed.{first_place}
 use Rattle.vring_packed.specs.Publication.{published_at, place_behind, passed, wants_notice}
 use Rattle.vring_packed.specs.Queue.{first_queue}
-use Rattle.vring_packed.specs.Calls.{Call, Fetch, Serve, Rewind, Finish, Publish, Ready, made_by_all, kept_by_all}
+use Rattle.vring_packed.specs.Calls.{Call, Fetch, Serve, Rewind, Finish, Publish, Ready, made_by_all, kept_by_all, used_by_all}
 use Rattle.vring_packed.specs.Examples.{one_region}
 
 abbrev pub ring_of_three : Bool → PackedLayout
@@ -46,11 +48,24 @@ NoticesAreWanted =
     ≡ true ∷ false ∷ true ∷ true ∷ false ∷ false ∷ false ∷ true ∷ [])
     × (wants_notice (ring_of_three false) last_place 3 (asked (2, 2)) ≡ true)
 
+-- a publication of nothing passes no place, and writes nothing: a notice is wanted all the same with the flags 0, and
+-- isn't with 1, or with 2 and the place at which it would begin
+abbrev pub NothingIsPublished : Type 0
+NothingIsPublished =
+    (passed [] ≡ 0)
+    × (map (λ area. wants_notice (ring_of_three true) last_place 0 (asked area)) ((0, 0) ∷ (0, 1) ∷ (32770, 2) ∷ [])
+    ≡ true ∷ false ∷ false ∷ [])
+    × (published_at (ring_of_three true) last_place [] (asked (0, 0)) ≡ asked (0, 0))
+
 -- two chains are fetched and served, the second is rewound and comes again, and then both are done and published
 abbrev pub one_rewound : List Call
 one_rewound =
     Ready ∷ Fetch (Chain 7 2) ∷ Serve ∷ Fetch (Chain 5 2) ∷ Serve ∷ Rewind 1 ∷ Fetch (Chain 5 2) ∷ Serve
     ∷ Finish 7 0 ∷ Finish 5 9 ∷ Publish ∷ []
+
+abbrev pub two_in_turn : List PackedChain
+two_in_turn =
+    record { place = first_place; id = 7; count = 2 } ∷ record { place = last_place; id = 5; count = 2 } ∷ []
 
 abbrev pub OneIsRewound : Type 0
 OneIsRewound =
@@ -62,4 +77,5 @@ OneIsRewound =
       journal = (0, 7, 0) ∷ (1, 5, 9) ∷ [];
       reserved = 2045;
     })
-    × (kept_by_all one_rewound (first_queue (ring_of_three false)) [] ≡ 7 ∷ 5 ∷ [])
+    × (kept_by_all one_rewound (first_queue (ring_of_three false)) [] ≡ two_in_turn)
+    × (used_by_all one_rewound (first_queue (ring_of_three false)) [] ≡ two_in_turn)

@@ -34,7 +34,10 @@ pub use crate::chain::PackedChain;
 pub use crate::desc::PackedDesc;
 pub use crate::done::PackedDone;
 pub use crate::fetched::{PackedFetched, Segments, fetch};
-pub use crate::laws::{each_is_once, fetches_as_function, worked_examples};
+pub use crate::laws::{
+    chains_are_usable, each_is_once, empty_is_not_crowded, fetches_as_function, worked_bounds,
+    worked_fetches, worked_turns,
+};
 pub use crate::layout::PackedLayout;
 pub use crate::notices::{set_notices, wants_notice};
 pub use crate::place::Place;

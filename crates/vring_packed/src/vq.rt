@@ -159,10 +159,9 @@ impl PackedVq {
         requires now { IsSome self.old.fetched }
         ensures { self.new ≡ with_served self.old.fetched self.old }
     {
-        if let Some(chain) = self.fetched {
+        if let Some(chain) = self.fetched.take() {
             self.next = self.next.after(self.layout.num, chain.count);
             self.position = self.position.wrapping_add(1);
-            self.fetched = None;
             self.served.push_back_reserved(chain);
         }
     }

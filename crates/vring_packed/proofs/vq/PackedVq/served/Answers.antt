@@ -14,7 +14,7 @@ invariant_of-self c =
       most = search rules;
       next = search rules;
       used = search rules;
-      fetched = tt;
+      fetched = search rules;
       served = subst (λ (xs : List PackedChain). All P xs) (sym {A = List PackedChain} c.push_back_reserved.ensures.items) (All-push P c.self.inside.served.items c.in-Some.chain c.self.invariant.served fits);
       done = search rules;
       served_most = search rules;
