@@ -4,9 +4,8 @@ ghost use Rattle.guest_mem.specs.Memory.{byte_at, covers};
 ghost use Rattle.vring_split.specs.Good.{IsGoodFor};
 ghost use Rattle.vring_walk.specs.Spread.{laid};
 ghost use Rattle.vhost_queue.specs.Queue.{room_of};
-ghost use Rattle.vring_turns.specs.Ring.{LieIn, bytes_in, room_in, segments_of, with_all_done};
+ghost use Rattle.vring_turns.specs.Ring.{LieIn, bytes_in, room_in, segments_of, with_all_done, found_behind, with_found};
 ghost use Rattle.vring_turns.specs.ReceiveImage.{shares};
-ghost use Rattle.vhost_rx.specs.Chains.{found_behind, with_found};
 ghost use Rattle.vhost_rx.specs.Kept.{kept_shares};
 
 use crate::lay::lay;
