@@ -17,9 +17,10 @@ use Rattle.tap_ring.specs.Turns.{turns_to, EachGiven}
 use Rattle.tap_ring.specs.Standing.{RingState, Placing, slots_of, home_at, IsEntered, IsReady, IsClaimed, IsInHand, EachClaim, KnowsFront, Ring, frames_of, times, total, within}
 use Rattle.tap_ring.specs.Steps.{with_producer, with_keeper}
 use Rattle.tap_ring.specs.Calls.{Token}
-use Rattle.tap_ring.specs.Finish.{StandsIn, AllClaims, AllGiven, EpochsNeverFall, IsEnd, claims_of, claims_to}
+use Rattle.tap_ring.specs.Moments.{IsPast, EachPast, IsBefore}
+use Rattle.tap_ring.specs.Finish.{StandsIn, AllClaims, AllGiven, AllBefore, EpochsNeverFall, IsEnd, claims_of, claims_to}
 use Rattle.tap_ring.specs.Leaving.{present, slots_from, gathered}
-use Rattle.tap_ring.proofs.Kit.{some_not_none, before_end, each_append, each_map, times-append}
+use Rattle.tap_ring.proofs.Kit.{some_not_none, before_end, each_append, each_map, times-append, mets_parts}
 use Rattle.tap_ring.proofs.Counts.{turns_rise, given_parts}
 use Rattle.tap_ring.proofs.Lines.{get_drop, slice_there, map_there, rotated, present_is}
 use Rattle.tap_ring.proofs.Causes.{word_parts}
@@ -108,6 +109,30 @@ gathered_gate v (t ∷ ts) = gathered_gate v ts
 pub gathered_snoc : (v : View) (all : List Token) (t : Token) → gathered v (all ++ t ∷ []) ≡ gathered (with_producer v t.view) all
 gathered_snoc v [] t = refl
 gathered_snoc v (x ∷ xs) t = ap (λ (y : View). with_producer y x.view) (gathered_snoc v xs t)
+
+-- what each producer saw lies behind
+before_of : (ws : List ℕ) (now m last : Moment) (claimed freed : ℕ) → now.claimed ≡ claimed → now.freed ≡ freed → now.epoch ≡ last.epoch → now.resizes ≡ last.resizes → now.shut ≡ last.shut
+    → IsPast ws now m → IsBefore claimed freed last m
+before_of ws now m last claimed freed a b c d e p =
+    let pa = p.claimed in
+    let pb = p.freed in
+    let pc = p.epoch in
+    let pd = p.resizes in
+    record {
+      claimed = omega (arith, a, pa);
+      freed = omega (arith, b, pb);
+      epoch = omega (arith, c, pc);
+      resizes = omega (arith, d, pd);
+      shut = λ same shut. sym e ∙ p.shut (same ∙ sym c) shut;
+    }
+
+gathered_seen : (ws : List ℕ) (now last : Moment) (claimed freed : ℕ) → now.claimed ≡ claimed → now.freed ≡ freed → now.epoch ≡ last.epoch → now.resizes ≡ last.resizes → now.shut ≡ last.shut
+    → (v : View) (all : List Token) → EachPast ws now (gathered v all).met → AllBefore claimed freed last all
+gathered_seen ws now last claimed freed a b c d e v [] past = tt
+gathered_seen ws now last claimed freed a b c d e v (t ∷ ts) past =
+    let r = mets_parts ws now (gathered v ts).met (t.view.gate ∷ t.view.asked ∷ t.view.room ∷ t.view.met) past in
+    let is : (m : Moment) → IsPast ws now m → IsBefore claimed freed last m = λ m. before_of ws now m last claimed freed a b c d e in
+    ((is t.view.gate r.1.0, is t.view.asked r.1.1.0, is t.view.room r.1.1.1.0), gathered_seen ws now last claimed freed a b c d e v ts r.0)
 
 -- ---- the end
 
@@ -278,6 +303,9 @@ ended plan words slots id n claimed v k w all final count is parts takes_is empt
       rising = epochs_rise k.opened all epochs;
       capacities = gathered_given plan.capacity k.resized (with_keeper v k) all
           (subst (λ (x : List ℕ × View). EachGiven plan.capacity x.0 x.1.loaded) (λ i. (resized_k i, is i)) (r.seats id w at).sizes);
+      seen = gathered_seen s.words r.h.now k.gate claimed v.freed (sym now) (sym ((r.seats id w at).front takes_w).freed ∙ freed_w)
+          (sym kept.epoch ∙ ap (λ (m : Moment). m.epoch) gate_w) (sym kept.resizes ∙ ap (λ (m : Moment). m.resizes) gate_w) (sym kept.shut ∙ ap (λ (m : Moment). m.shut) gate_w)
+          (with_keeper v k) all (subst (λ (x : View). EachPast s.words r.h.now x.met) is (r.seats id w at).met);
       order = (omega (arith, c2, freed_w), omega (arith, c3, freed_w, next_w), omega (arith, c4, next_w, now));
       turns = (
         ap (λ (m : Moment). m.epoch) (sym gate_w) ∙ kept.epoch ∙ r.turns.count ∙ ap length opened_k,

@@ -10,7 +10,7 @@ use Rattle.tap_ring.specs.declared.rule.View.{View}
 use Rattle.tap_ring.specs.declared.rule.Plan.{Plan}
 use Rattle.tap_ring.specs.Standing.{RingState, Standing, slots_of, slot_at, word_at, IsPlace, KnowsFront, Knows, Ring, times}
 use Rattle.tap_ring.specs.Steps.{Seated, Frees}
-use Rattle.tap_ring.proofs.Kit.{past_stays, total_set}
+use Rattle.tap_ring.proofs.Kit.{past_stays, mets_stay, total_set}
 use Rattle.tap_ring.proofs.Counts.{sizes_same}
 use Rattle.tap_ring.proofs.Stays.{Apart, seats_set, place_stays}
 use Rattle.tap_ring.proofs.Loads.{still_set, hand_set}
@@ -72,6 +72,7 @@ module _ (plan : Plan) where
         epoch = le_refl r.h.now.epoch;
         resizes = le_refl r.h.now.resizes;
         caps = λ k _. caps_apart plan s.words 1 n k (omega arith);
+        shut = λ _ e. e;
       };
       more = [];
       log = sym (append-nil r.h.log);
@@ -115,6 +116,7 @@ module _ (plan : Plan) where
       gate = λ t. past_stays s.words fs.words r.h.now fh.now v.gate fothers.goes (fknows.gate t);
       asked = λ t. past_stays s.words fs.words r.h.now fh.now v.asked fothers.goes (fknows.asked t);
       room = λ t. past_stays s.words fs.words r.h.now fh.now v.room fothers.goes (fknows.room t);
+      met = mets_stay s.words fs.words r.h.now fh.now v.met fothers.goes fknows.met;
     }
 
     pub freed_ring : Ring plan fs

@@ -114,6 +114,7 @@ module _ (plan : Plan) where
       gate = knows.gate;
       asked = knows.asked;
       room = knows.room;
+      met = knows.met;
     }
 
     pub taken_ring : Ring plan s'
@@ -229,6 +230,7 @@ module _ (plan : Plan) where
           gate = k.gate;
           asked = k.asked;
           room = k.room;
+          met = k.met;
         })),
         (i_is, subst (λ (b : Bool). MatchBool b (Ready v n found (w, v.1)) (Unready v found (w, v.1))) (sym t.0) (refl, refl)),
       ))

@@ -13,7 +13,7 @@ use Rattle.tap_ring.specs.Moments.{Fits, gate_of, capacity_at}
 use Rattle.tap_ring.specs.Turns.{EachGiven}
 use Rattle.tap_ring.specs.Standing.{RingState, Standing, slots_of, slot_at, word_at, CountsTurns, CountsSizes, Knows, Ring, times}
 use Rattle.tap_ring.specs.Steps.{Seated, seen_gate, Shuts, Reopens, Stores, Resizes, IsKept, shut_at, reopened_at, resized_at, with_turn, with_resize}
-use Rattle.tap_ring.proofs.Kit.{off, on, some_not_none, some_is, GoesOn, past_stays, total_set}
+use Rattle.tap_ring.proofs.Kit.{off, on, some_not_none, some_is, GoesOn, past_stays, mets_stay, total_set}
 use Rattle.tap_ring.proofs.Counts.{turns_reopen, sizes_same, sizes_more, given_more}
 use Rattle.tap_ring.proofs.Stays.{Apart, seats_set, place_stays}
 use Rattle.tap_ring.proofs.Loads.{new_now, still_set, hand_set}
@@ -24,7 +24,7 @@ module _ (plan : Plan) where
 
   module _ (s : RingState) (r : Ring plan s) (by : ℕ) (v : View) (n : ℕ) (at : get_elem? s.views by ≡ some v) (keeps_is : v.keeps ≡ true)
       (shut : Bool) (epoch resizes capacity : ℕ) (opened resized : List ℕ) (stored : Option ℕ)
-      (later_epoch : r.h.now.epoch ≤ epoch) (later_resizes : r.h.now.resizes ≤ resizes) (few_epochs : epoch < 2 ^ 16) (few_resizes : resizes < 2 ^ 7)
+      (later_epoch : r.h.now.epoch ≤ epoch) (stays_shut : r.h.now.epoch ≡ epoch → r.h.now.shut ≡ true → shut ≡ true) (later_resizes : r.h.now.resizes ≤ resizes) (few_epochs : epoch < 2 ^ 16) (few_resizes : resizes < 2 ^ 7)
       (stands : capacity_at s.words resizes ≡ capacity) (small : capacity ≤ slots_of s)
       (next : (c : ℕ) → stored ≡ Some c → (resizes + 1 < 2 ^ 7) × (capacity_at s.words (resizes + 1) ≡ c) × (c ≤ slots_of s))
       (turns_are : CountsTurns plan.first r.h.now.claimed epoch r.h.log opened) (sizes_are : CountsSizes plan.capacity s.words resizes resized)
@@ -58,6 +58,7 @@ module _ (plan : Plan) where
       epoch = later_epoch;
       resizes = later_resizes;
       caps = λ k _. caps_apart plan s.words 0 n k (omega arith);
+      shut = stays_shut;
     }
 
     others : Apart plan.first s s' r.h h' by
@@ -112,9 +113,11 @@ module _ (plan : Plan) where
         epoch = le_refl m.epoch;
         resizes = le_refl m.resizes;
         capacity = caps_apart plan s.words 0 n resizes (omega arith) ∙ stands;
+        shut = λ _ e. e;
       };
       asked = λ t. past_stays s.words s'.words r.h.now m v.asked goes (knows.asked t);
       room = λ t. past_stays s.words s'.words r.h.now m v.room goes (knows.room t);
+      met = mets_stay s.words s'.words r.h.now m v.met goes knows.met;
     }
 
     pub gated_ring : Ring plan s'
@@ -184,7 +187,7 @@ module _ (plan : Plan) where
         seen_gate (shut_at now) v.0,
         keeps,
         tt,
-        gated_ring s r by v.0 ((slice_index s.words 0 + 2 ^ 40) % 2 ^ 64) at keeps_is true now.epoch now.resizes now.capacity v.0.opened v.0.resized v.0.stored (le_refl now.epoch) (le_refl now.resizes) r.fits.epoch r.fits.resizes r.capacity r.small g.stored
+        gated_ring s r by v.0 ((slice_index s.words 0 + 2 ^ 40) % 2 ^ 64) at keeps_is true now.epoch now.resizes now.capacity v.0.opened v.0.resized v.0.stored (le_refl now.epoch) (λ _ _. refl) (le_refl now.resizes) r.fits.epoch r.fits.resizes r.capacity r.small g.stored
             (kept_turns s r by v.0 k keeps_is) (kept_sizes s r by v.0 k keeps_is) (kept_given s r by v.0 k keeps_is) is,
         (now, r.gate, kept_now s r by v.0 live k keeps_is, refl, refl),
       )
@@ -201,7 +204,7 @@ module _ (plan : Plan) where
         with_turn now v.0,
         keeps,
         tt,
-        gated_ring s r by v.0 ((slice_index s.words 0 + 2 ^ 40) % 2 ^ 64) at keeps_is false (now.epoch + 1) now.resizes now.capacity (v.0.opened ++ now.claimed ∷ []) v.0.resized v.0.stored (omega arith) (le_refl now.resizes) few_now r.fits.resizes r.capacity r.small g.stored
+        gated_ring s r by v.0 ((slice_index s.words 0 + 2 ^ 40) % 2 ^ 64) at keeps_is false (now.epoch + 1) now.resizes now.capacity (v.0.opened ++ now.claimed ∷ []) v.0.resized v.0.stored (omega arith) (λ e. absurd (omega (arith, e))) (le_refl now.resizes) few_now r.fits.resizes r.capacity r.small g.stored
             (turns_reopen plan.first now.claimed now.epoch r.h.log v.0.opened r.long (kept_turns s r by v.0 k keeps_is)) (kept_sizes s r by v.0 k keeps_is) (kept_given s r by v.0 k keeps_is) is,
         (now, r.gate, kept_now s r by v.0 live k keeps_is, refl, refl),
       )
@@ -217,7 +220,7 @@ module _ (plan : Plan) where
         with_resize c now v.0,
         keeps,
         tt,
-        gated_ring s r by v.0 ((slice_index s.words 0 + 2 ^ 57) % 2 ^ 64) at keeps_is now.shut now.epoch (now.resizes + 1) c v.0.opened (v.0.resized ++ c ∷ []) None (le_refl now.epoch) (omega arith) r.fits.epoch z.0 z.1 z.2 (λ d e. absurd (some_not_none d (sym e)))
+        gated_ring s r by v.0 ((slice_index s.words 0 + 2 ^ 57) % 2 ^ 64) at keeps_is now.shut now.epoch (now.resizes + 1) c v.0.opened (v.0.resized ++ c ∷ []) None (le_refl now.epoch) (λ _ e. e) (omega arith) r.fits.epoch z.0 z.1 z.2 (λ d e. absurd (some_not_none d (sym e)))
             (kept_turns s r by v.0 k keeps_is) (sizes_more plan.capacity s.words now.resizes c v.0.resized z.1 (kept_sizes s r by v.0 k keeps_is))
             (λ first xs e. given_more first v.0.resized (c ∷ []) xs (kept_given s r by v.0 k keeps_is first xs e)) is,
         (now, r.gate, kept_now s r by v.0 live k keeps_is, (c, stored, refl), refl),
@@ -255,6 +258,7 @@ module _ (plan : Plan) where
       epoch = le_refl r.h.now.epoch;
       resizes = le_refl r.h.now.resizes;
       caps = λ k le. sother (2 + k) (λ e. omega (arith, e, le));
+      shut = λ _ e. e;
     }
 
     sothers : Apart plan.first s ss r.h r.h by
@@ -307,6 +311,7 @@ module _ (plan : Plan) where
       gate = λ t. past_stays s.words ss.words r.h.now r.h.now v.gate sgoes (sknows.gate t);
       asked = λ t. past_stays s.words ss.words r.h.now r.h.now v.asked sgoes (sknows.asked t);
       room = λ t. past_stays s.words ss.words r.h.now r.h.now v.room sgoes (sknows.room t);
+      met = mets_stay s.words ss.words r.h.now r.h.now v.met sgoes sknows.met;
     }
 
     pub stored_ring : Ring plan ss

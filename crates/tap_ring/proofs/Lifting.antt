@@ -143,6 +143,7 @@ module _ (plan : Plan) where
       gate = lknows.gate;
       asked = lknows.asked;
       room = lknows.room;
+      met = lknows.met;
     }
 
     pub lifted_ring : Ring plan ls

@@ -27,6 +27,7 @@ module _ (plan : Plan) where
     epoch = le_refl r.h.now.epoch;
     resizes = le_refl r.h.now.resizes;
     capacity = r.capacity;
+    shut = λ _ e. e;
   }
 
   -- each place that a seat claimed is below the claim count
@@ -142,6 +143,7 @@ module _ (plan : Plan) where
     gate = λ _. past_now s r;
     asked = k.asked;
     room = k.room;
+    met = k.met;
   }
 
   pub loads_gate : (slots by : ℕ) (v : Seated) → v.0.spent ≡ false → Allows (Ring plan) slots by v 0 (λ n. n) (LoadsGate (step slots 0 0 0 none) v)
@@ -175,6 +177,7 @@ module _ (plan : Plan) where
           gate = k.gate;
           asked = k.gate;
           room = k.room;
+          met = k.met;
         })),
         (ap (slice_index s.words) is ∙ (k.gate live).capacity, refl, refl),
       )
@@ -195,6 +198,7 @@ module _ (plan : Plan) where
           gate = k.gate;
           asked = k.asked;
           room = λ _. past_now s r;
+          met = k.met;
         })),
         (r.h.now, r.freed, new_now s r by v.0 live k, refl, refl),
       )

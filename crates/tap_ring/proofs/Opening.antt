@@ -47,6 +47,7 @@ module _ (plan : Plan) where
       epoch = omega arith;
       resizes = omega arith;
       capacity = capacity;
+      shut = λ _ e. e;
     }
 
     oslots : slots_of os ≡ n
@@ -68,6 +69,7 @@ module _ (plan : Plan) where
       gate = λ _. onow;
       asked = λ _. onow;
       room = λ _. onow;
+      met = tt;
     }
 
     first_given : (k : ℕ) → k ≤ 0 → IsGiven plan.capacity [] k (capacity_at words k)

@@ -113,6 +113,7 @@ module _ (plan : Plan) where
         gate = k.gate;
         asked = k.asked;
         room = k.room;
+        met = k.met;
       })
       (record {
         claims = no_claims (record s { views = set s.views by (without_producer v) ++ one_producer v ∷ [] }) (record r.h { consumer = r.h.consumer }) (length s.views) (one_producer v) none_mine idle;
@@ -123,6 +124,7 @@ module _ (plan : Plan) where
         gate = k.gate;
         asked = k.asked;
         room = k.room;
+        met = k.met;
       })
 
   -- the consumer leaves the first seat
@@ -141,6 +143,7 @@ module _ (plan : Plan) where
         gate = k.gate;
         asked = k.asked;
         room = k.room;
+        met = k.met;
       })
       (record {
         claims = no_claims (record s { views = set s.views by (without_consumer v) ++ the_consumer v ∷ [] }) (record r.h { consumer = length s.views }) (length s.views) (the_consumer v) none_mine idle;
@@ -151,4 +154,5 @@ module _ (plan : Plan) where
         gate = k.gate;
         asked = k.asked;
         room = k.room;
+        met = k.met;
       })

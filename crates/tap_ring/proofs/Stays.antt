@@ -12,7 +12,7 @@ use Rattle.tap_ring.specs.declared.rule.Plan.{Plan}
 use Rattle.tap_ring.specs.Moments.{capacity_at}
 use Rattle.tap_ring.specs.Turns.{EachGiven}
 use Rattle.tap_ring.specs.Standing.{RingState, Placing, Standing, slots_of, slot_at, word_at, home_at, IsEntered, IsReady, IsClaimed, IsInHand, IsPlace, frames_of, KnowsClaims, KnowsFront, KnowsGate, Knows, Ring}
-use Rattle.tap_ring.proofs.Kit.{take_more, GoesOn, past_stays, entered_longer, each_map}
+use Rattle.tap_ring.proofs.Kit.{take_more, GoesOn, past_stays, mets_stay, entered_longer, each_map}
 
 -- what a step of the seat `by` must leave as it was for all others
 pub record Apart (first : ℕ) (s s' : RingState) (h h' : Standing) (by : ℕ) : Type 0 where
@@ -94,6 +94,7 @@ knows_apart plan s s' r h' by j v a ne k = record {
   gate = λ t. past_stays s.words s'.words r.h.now h'.now v.gate a.goes (k.gate t);
   asked = λ t. past_stays s.words s'.words r.h.now h'.now v.asked a.goes (k.asked t);
   room = λ t. past_stays s.words s'.words r.h.now h'.now v.room a.goes (k.room t);
+  met = mets_stay s.words s'.words r.h.now h'.now v.met a.goes k.met;
 }
 
 -- all seats, after a step of one

@@ -11,7 +11,7 @@ use Rattle.tap_ring.specs.declared.rule.Moment.{Moment}
 use Rattle.tap_ring.specs.declared.rule.Claim.{Claim}
 use Rattle.tap_ring.specs.declared.rule.View.{View}
 use Rattle.tap_ring.specs.declared.rule.Plan.{Plan}
-use Rattle.tap_ring.specs.Moments.{Fits, IsPast, gate_of, capacity_at}
+use Rattle.tap_ring.specs.Moments.{Fits, IsPast, EachPast, gate_of, capacity_at}
 use Rattle.tap_ring.specs.Turns.{turns_to, IsGiven, EachGiven}
 
 -- a ring's words, slots and views as plain data
@@ -138,6 +138,7 @@ module _ (plan : Plan) (s : RingState) (h : Standing) (j : ℕ) (v : View) where
     pub gate : v.spent ≡ false → IsPast s.words h.now v.gate
     pub asked : v.spent ≡ false → IsPast s.words h.now v.asked
     pub room : v.spent ≡ false → IsPast s.words h.now v.room
+    pub met : EachPast s.words h.now v.met
 
 -- ---- reopenings and resizes
 
@@ -217,6 +218,7 @@ new_producers plan parts = record {
   opened = [];
   resized = [];
   stored = None;
+  met = [];
   spent = false;
   gate = opening_moment plan.first plan.capacity;
   gate_loads = 0;

@@ -179,6 +179,7 @@ with_producer v w = record v {
   parts = v.parts + w.parts;
   mine = v.mine ++ w.mine;
   loaded = v.loaded ++ w.loaded;
+  met = v.met ++ w.gate ∷ w.asked ∷ w.room ∷ w.met;
 }
 
 -- the keeper's part comes to another seat

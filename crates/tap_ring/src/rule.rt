@@ -61,6 +61,8 @@ pub struct View {
     pub resized: LinkedList<u16>,
     /// The capacity that it stored for the next number of resizes.
     pub stored: Option<u16>,
+    /// What the ring was when the tokens that joined it met it last.
+    pub met: LinkedList<Moment>,
     /// Whether another token took over what it knew.
     pub spent: bool,
     /// What the ring was when it met the gate last; of the keeper, what its own step made of it.
