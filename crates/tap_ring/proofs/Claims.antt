@@ -111,7 +111,7 @@ module _ (plan : Plan) where
       keeper = refl;
       front = λ _. (refl, refl, (λ e. place_word r.h.lifted ∙ e));
       gate = λ _. (refl, refl, refl, (λ e. absurd (off (sym unshut ∙ e))), (λ _. caps_apart s.words 0 n (r.h.now.resizes + 1) (omega arith)));
-      turns = λ _. (refl, refl);
+      turns = λ _. (refl, refl, refl);
       given = λ _ _ e. e;
       putting = λ j d ne e low word. (low, subst (λ m. m ≤ d.place) (sym (place_word d.place)) word);
     }
@@ -186,6 +186,7 @@ module _ (plan : Plan) where
           below = r.below;
           behind = omega (arith, behind);
           ahead = subst (λ m. q + 1 ≤ r.h.now.freed + m) (sym slots) (let e = in_window in omega (arith, e));
+          room = let x = room in inl (omega (arith, x));
           long = let l = r.long in let a = length-append r.h.log (record { by = by; claim = c } ∷ []) in omega (arith, l, a);
           turns = turns_claim plan.first q r.h.now.epoch r.h.log r.h.opened (record { by = by; claim = c }) r.long epoch r.turns;
           sizes = sizes_same plan.capacity s.words s'.words r.h.now.resizes r.h.resized others.goes.caps r.sizes;

@@ -1,5 +1,5 @@
 -- What the rule says once all producers' claims are with the consumer's seat: whose each place is, and what lies in each slot.
-use Rattle.std.proofs.Common.{◌≡◌, ◌≢◌, ◌⊎◌, ℕ, zero, suc, ◌+◌, ◌-◌, ◌%◌, ◌≤◌, ◌<◌, eqb, List, [], ◌∷◌, ◌++◌, take, drop, length, Some, None, Option, true, false, refl, sym, ap, ◌∙◌, subst, ⊎_elim, arith, length-append, length-drop, take-append-drop, mod-lt}
+use Rattle.std.proofs.Common.{◌≡◌, ◌≢◌, ◌⊎◌, ℕ, zero, suc, ◌+◌, ◌-◌, ◌%◌, ◌≤◌, ◌<◌, eqb, List, [], ◌∷◌, ◌++◌, take, drop, length, Some, None, Option, true, false, refl, sym, ap, ◌∙◌, subst, ⊎_elim, le_refl, arith, length-append, length-drop, take-append-drop, mod-lt}
 use Rattle.std.specs.Prelude.{slice_index, slice_index_or, Contains}
 use Rattle.std.proofs.lemmas.Bool.Decides.{eqb_tells}
 use Rattle.std.proofs.lemmas.List.{length-map}
@@ -13,11 +13,11 @@ use Rattle.tap_ring.specs.declared.rule.Claim.{Claim}
 use Rattle.tap_ring.specs.declared.rule.View.{View}
 use Rattle.tap_ring.specs.declared.rule.Plan.{Plan}
 use Rattle.tap_ring.specs.GateWord.{claimed_of}
-use Rattle.tap_ring.specs.Turns.{turns_to, EachGiven}
+use Rattle.tap_ring.specs.Turns.{turns_to, IsGiven, EachGiven}
 use Rattle.tap_ring.specs.Standing.{RingState, Placing, slots_of, home_at, IsEntered, IsReady, IsClaimed, IsInHand, EachClaim, KnowsFront, Ring, frames_of, times, total, within}
 use Rattle.tap_ring.specs.Steps.{with_producer, with_keeper}
 use Rattle.tap_ring.specs.Calls.{Token}
-use Rattle.tap_ring.specs.Moments.{IsPast, EachPast, IsBefore}
+use Rattle.tap_ring.specs.Moments.{KeepsRoom, IsPast, EachPast, IsBefore, capacity_at}
 use Rattle.tap_ring.specs.Finish.{StandsIn, AllClaims, AllGiven, AllBefore, EpochsNeverFall, IsEnd, claims_of, claims_to}
 use Rattle.tap_ring.specs.Leaving.{present, slots_from, gathered}
 use Rattle.tap_ring.proofs.Kit.{some_not_none, before_end, each_append, each_map, times-append, mets_parts}
@@ -102,8 +102,8 @@ gathered_front v [] = (refl, refl, refl, refl, refl, refl)
 gathered_front v (t ∷ ts) = gathered_front v ts
 
 -- and the keeper's
-gathered_gate : (v : View) (all : List Token) → ((gathered v all).keeps ≡ v.keeps) × ((gathered v all).gate ≡ v.gate) × ((gathered v all).spent ≡ v.spent) × ((gathered v all).opened ≡ v.opened) × ((gathered v all).resized ≡ v.resized)
-gathered_gate v [] = (refl, refl, refl, refl, refl)
+gathered_gate : (v : View) (all : List Token) → ((gathered v all).keeps ≡ v.keeps) × ((gathered v all).gate ≡ v.gate) × ((gathered v all).spent ≡ v.spent) × ((gathered v all).opened ≡ v.opened) × ((gathered v all).resized ≡ v.resized) × ((gathered v all).resized_from ≡ v.resized_from)
+gathered_gate v [] = (refl, refl, refl, refl, refl, refl)
 gathered_gate v (t ∷ ts) = gathered_gate v ts
 
 pub gathered_snoc : (v : View) (all : List Token) (t : Token) → gathered v (all ++ t ∷ []) ≡ gathered (with_producer v t.view) all
@@ -277,6 +277,12 @@ ended plan words slots id n claimed v k w all final count is parts takes_is empt
     let lists = (r.seats id w at).turns keeps_w in
     let opened_k : r.h.opened ≡ k.opened = sym lists.0 ∙ ap (λ (x : View). x.opened) is ∙ q.3 in
     let resized_k : r.h.resized ≡ k.resized = sym lists.1 ∙ ap (λ (x : View). x.resized) is ∙ q.4 in
+    let from_k : r.h.resized_from ≡ k.resized_from = sym lists.2 ∙ ap (λ (x : View). x.resized_from) is ∙ q.5 in
+    let resizes_k : r.h.now.resizes ≡ k.gate.resizes = sym kept.resizes ∙ ap (λ (m : Moment). m.resizes) gate_w in
+    let capacity_k : capacity_at s.words k.gate.resizes ≡ k.gate.capacity =
+    subst (λ (m : Moment). capacity_at s.words m.resizes ≡ m.capacity) gate_w ((r.seats id w at).gate live_w).capacity in
+    let now_capacity : r.h.now.capacity ≡ k.gate.capacity = sym r.capacity ∙ ap (capacity_at s.words) resizes_k ∙ capacity_k in
+    let now_freed : r.h.now.freed ≡ v.freed = sym ((r.seats id w at).front takes_w).freed ∙ freed_w in
     let epochs : AllClaims (λ x. x.epoch ≡ turns_to x.place k.opened) all =
     gathered_claims (λ x. x.epoch ≡ turns_to x.place k.opened) (with_keeper v k) all
     (subst (λ (x : List ℕ × View). EachClaim (λ c. c.epoch ≡ turns_to c.place x.0) x.1.mine) (λ i. (opened_k i, is i))
@@ -303,9 +309,12 @@ ended plan words slots id n claimed v k w all final count is parts takes_is empt
       rising = epochs_rise k.opened all epochs;
       capacities = gathered_given plan.capacity k.resized (with_keeper v k) all
           (subst (λ (x : List ℕ × View). EachGiven plan.capacity x.0 x.1.loaded) (λ i. (resized_k i, is i)) (r.seats id w at).sizes);
-      seen = gathered_seen s.words r.h.now k.gate claimed v.freed (sym now) (sym ((r.seats id w at).front takes_w).freed ∙ freed_w)
-          (sym kept.epoch ∙ ap (λ (m : Moment). m.epoch) gate_w) (sym kept.resizes ∙ ap (λ (m : Moment). m.resizes) gate_w) (sym kept.shut ∙ ap (λ (m : Moment). m.shut) gate_w)
+      seen = gathered_seen s.words r.h.now k.gate claimed v.freed (sym now) now_freed
+          (sym kept.epoch ∙ ap (λ (m : Moment). m.epoch) gate_w) resizes_k (sym kept.shut ∙ ap (λ (m : Moment). m.shut) gate_w)
           (with_keeper v k) all (subst (λ (x : View). EachPast s.words r.h.now x.met) is (r.seats id w at).met);
+      last_capacity = subst (λ (x : List ℕ × ℕ × ℕ). IsGiven plan.capacity x.0 x.1 x.2) (λ i. (resized_k i, resizes_k i, (r.capacity ∙ now_capacity) i))
+          (r.sizes.given r.h.now.resizes (le_refl r.h.now.resizes));
+      room = subst (λ (x : ℕ × ℕ × ℕ × ℕ). KeepsRoom x.0 x.1 x.2 x.3) (λ i. (sym now i, now_freed i, now_capacity i, from_k i)) r.room;
       order = (omega (arith, c2, freed_w), omega (arith, c3, freed_w, next_w), omega (arith, c4, next_w, now));
       turns = (
         ap (λ (m : Moment). m.epoch) (sym gate_w) ∙ kept.epoch ∙ r.turns.count ∙ ap length opened_k,

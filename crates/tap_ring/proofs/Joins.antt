@@ -75,6 +75,7 @@ module _ (plan : Plan) where
         behind = r.behind;
         ahead = r.ahead;
         long = r.long;
+        room = r.room;
         turns = r.turns;
         sizes = r.sizes;
         places = λ p a b. place_stays plan.first s s' r.h h' p [] (sym (append-nil r.h.log)) refl refl (λ t. t) (λ t. t) (λ t. t) (λ t. t)

@@ -109,7 +109,7 @@ module _ (plan : Plan) where
       keeper = refl;
       front = λ _. (refl, refl, put_hand);
       gate = λ _. (refl, refl, refl, (λ _. refl), (λ le. put_low (2 + (r.h.now.resizes + 1)) (omega (arith, le))));
-      turns = λ _. (refl, refl);
+      turns = λ _. (refl, refl, refl);
       given = λ _ _ e. e;
       putting = λ j d ne e low word.
           let apart : d.place ≢ c.place = λ same. ne (ap (λ (x : Placing). x.by) (entered_once plan.first r.h.log d.place (record { by = j; claim = d }) (record { by = by; claim = c }) e (subst (λ m. IsEntered plan.first r.h.log m (record { by = by; claim = c })) (sym same) mine_put.0))) in
@@ -166,6 +166,7 @@ module _ (plan : Plan) where
       behind = r.behind;
       ahead = subst (λ m. r.h.now.claimed ≤ r.h.now.freed + m) (sym put_slots) r.ahead;
       long = r.long;
+      room = r.room;
       turns = r.turns;
       sizes = sizes_same plan.capacity s.words put_state.words r.h.now.resizes r.h.resized put_others.goes.caps r.sizes;
       places = λ p a b. ⊎_elim

@@ -51,7 +51,7 @@ module _ (plan : Plan) where
         keeper = refl;
         front = λ _. (refl, refl, (λ e. e));
         gate = λ _. (refl, refl, refl, (λ _. refl), (λ _. refl));
-        turns = λ _. (refl, refl);
+        turns = λ _. (refl, refl, refl);
         given = λ _ _ e. e;
         putting = λ j c ne e low word. (low, word);
       } in
@@ -69,6 +69,7 @@ module _ (plan : Plan) where
         behind = r.behind;
         ahead = r.ahead;
         long = r.long;
+        room = r.room;
         turns = r.turns;
         sizes = r.sizes;
         places = λ p a b. place_stays plan.first s s' r.h h' p [] (sym (append-nil r.h.log)) refl refl (λ t. t) (λ t. t) (λ t. t) (λ t. t)

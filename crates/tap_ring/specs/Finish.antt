@@ -6,8 +6,8 @@ use Rattle.tap_ring.specs.declared.rule.Claim.{Claim}
 use Rattle.tap_ring.specs.declared.rule.View.{View}
 use Rattle.tap_ring.specs.declared.rule.Plan.{Plan}
 use Rattle.tap_ring.specs.declared.rule.Moment.{Moment}
-use Rattle.tap_ring.specs.Moments.{IsBefore}
-use Rattle.tap_ring.specs.Turns.{turns_to, EachGiven}
+use Rattle.tap_ring.specs.Moments.{KeepsRoom, IsBefore}
+use Rattle.tap_ring.specs.Turns.{turns_to, IsGiven, EachGiven}
 use Rattle.tap_ring.specs.Standing.{EachClaim, times, within}
 use Rattle.tap_ring.specs.Calls.{Token}
 
@@ -67,6 +67,8 @@ pub record IsEnd (plan : Plan) (all : List Token) (c k : View) (claimed freed li
   pub rising : EpochsNeverFall (claims_of all)
   pub capacities : AllGiven plan.capacity k.resized all
   pub seen : AllBefore claimed freed k.gate all
+  pub last_capacity : IsGiven plan.capacity k.resized k.gate.resizes k.gate.capacity
+  pub room : KeepsRoom claimed freed k.gate.capacity k.resized_from
   pub order : (plan.first ≤ freed) × (freed ≤ lifted) × (lifted ≤ claimed)
   pub turns : (k.gate.epoch ≡ length k.opened) × (k.gate.resizes ≡ length k.resized)
   pub later : k.gate.claimed ≤ claimed

@@ -43,6 +43,10 @@ IsFull m = m.freed + m.capacity ≤ m.claimed
 abbrev pub HasRoom : Moment → Type 0
 HasRoom m = m.claimed < m.freed + m.capacity
 
+-- No more places are claimed and not free again than the capacity allows; or else none was claimed since the last resize.
+abbrev pub KeepsRoom : ℕ → ℕ → ℕ → ℕ → Type 0
+KeepsRoom claimed freed capacity resized_from = (claimed ≤ freed + capacity) ⊎ (claimed ≡ resized_from)
+
 -- every place that was given out is free again
 abbrev pub IsDrained : Moment → Type 0
 IsDrained m = m.claimed ≡ m.freed

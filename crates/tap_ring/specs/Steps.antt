@@ -133,6 +133,7 @@ with_turn m v = record (seen_gate (reopened_at m) v) { opened = v.opened ++ m.cl
 abbrev pub with_resize : ℕ → Moment → View → View
 with_resize capacity m v = record (seen_gate (resized_at capacity m) v) {
   resized = v.resized ++ capacity ∷ [];
+  resized_from = m.claimed;
   stored = None;
 }
 
@@ -188,6 +189,7 @@ with_keeper v w = record v {
   keeps = true;
   opened = w.opened;
   resized = w.resized;
+  resized_from = w.resized_from;
   stored = None;
   gate = w.gate;
 }
