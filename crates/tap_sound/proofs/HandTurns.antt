@@ -24,7 +24,8 @@ use Rattle.tap_world.specs.ByNumber.{at}
 use Rattle.tap_world.specs.Then.{◌>>=◌}
 use Rattle.tap_world.specs.Frames.{FrameText}
 use Rattle.tap_world.specs.Setup.{Numbered, Setup, frame_of}
-use Rattle.tap_world.specs.Line.{Entry, File, first_that, in_batch}
+use Rattle.tap_world.specs.declared.line.Entry.{Entry}
+use Rattle.tap_world.specs.Line.{File, first_that, in_batch}
 use Rattle.tap_world.specs.LineSteps.{changed}
 use Rattle.tap_world.specs.LineSteps.Change.{Leaves, PutsBack, Takes}
 use Rattle.tap_world.specs.World.{Doing, World}

@@ -13,7 +13,7 @@ use Rattle.tap_world.specs.ByNumber.{at}
 use Rattle.tap_world.specs.Guests.{Vhost}
 use Rattle.tap_world.specs.Setup.{Setup}
 use Rattle.tap_world.specs.Line.{Entry, File, Standing, claimed, count, first_that, freed, in_batch, is_empty, is_kept}
-use Rattle.tap_world.specs.Line.Standing.{Batched, Claimed, Cut, Out, Ready}
+use Rattle.tap_world.specs.declared.line.Standing.TheVariants.{Batched, Claimed, Cut, Out, Ready}
 use Rattle.tap_world.specs.World.{Actor, Doing, World, current, newest, table}
 use Rattle.tap_world.specs.Stands.{same_name}
 use Rattle.tap_world.specs.World.Doing.{Backed, Backs, Changes, Disowned, Opened, Opens, Owns, Placed, Purges, Receives, Released, Resizes, Shrinks, Unbacked, Withdrawn, Withdraws}
