@@ -10,6 +10,7 @@ use Rattle.tap_ledger.specs.declared.fate.Cause.TheVariants.{NoQueue, Filtered, 
 use Rattle.tap_ledger.specs.declared.hand.Hand.{Hand}
 use Rattle.tap_ledger.specs.declared.hand.Hand.TheVariants.{Got, NotReady, Off, NoMemory}
 use Rattle.tap_ledger.specs.declared.hand.OutFrame.{OutFrame}
+use Rattle.tap_ground.specs.Counts.{Rose}
 
 -- what a queue is to a contract
 pub record QueueState : Type 0 where
@@ -41,10 +42,6 @@ line queue = map (λ o. o.name) queue.out ++ (option_to_list queue.in_hand ++ ma
 -- the new frames are the old ones and perhaps more behind them
 abbrev pub Extends : List FrameValue → List FrameValue → Type 0
 Extends old new = (more : List FrameValue) × (new ≡ old ++ more)
-
--- a count rose, or stands at the end of its type
-abbrev pub Rose : ℕ → ℕ → Type 0
-Rose before now = min (before + 1) (2 ^ 64 - 1) ≤ now
 
 -- the frame that is handed out, if one is, and those behind it
 abbrev pub with_handed : Hand → List FrameValue → List FrameValue

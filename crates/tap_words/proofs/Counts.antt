@@ -7,7 +7,8 @@ use Rattle.clap.specs.Words.{Text}
 use Rattle.text_fields.specs.Numbers.{in_range, number_of}
 use Rattle.tap_words.specs.declared.request.Request.{Request}
 use Rattle.tap_words.specs.declared.request.Request.TheVariants.{Check, Plain, Live, Audit, Gen, Upgrade}
-use Rattle.tap_words.specs.Words.{CountFits, CountsFit, Given, alone, asked_by, given, seed_of, when, with_number}
+use Rattle.tap_ground.specs.Options.{only_if as when}
+use Rattle.tap_words.specs.Words.{CountFits, CountsFit, Given, alone, asked_by, given, seed_of, with_number}
 
 choose : (b : Bool) (x y : Option Request) → CountFits x → CountFits y → CountFits (cond b x y)
 choose true x y p q = p

@@ -6,7 +6,7 @@ use Rattle.tap_frame.specs.declared.name.Name.{Name}
 use Rattle.tap_ledger.specs.declared.fate.Fate.{Fate}
 use Rattle.tap_ledger.specs.declared.fate.Fate.TheVariants.{Waiting, Discarded}
 use Rattle.tap_ledger.specs.declared.fate.Cause.TheVariants as cause
-use Rattle.tap_world.specs.Then.{only_if}
+use Rattle.tap_ground.specs.Options.{only_if}
 
 -- ---- the line
 

@@ -6,7 +6,7 @@ use Rattle.tap_steer.specs.declared.operation.Op.{Op}
 use Rattle.tap_steer.specs.Table.{Table}
 use Rattle.tap_steer.specs.After.{after_all}
 use Rattle.tap_frame.specs.Frame.{FrameValue}
-use Rattle.tap_trace.specs.declared.causes.TapText.{TapText}
+use Rattle.tap_ledger.specs.declared.error.TapErr.{TapErr as TapText}
 use Rattle.tap_trace.specs.declared.turn.ChainText.{ChainText}
 use Rattle.tap_trace.specs.declared.trace.AnswerLine.{AnswerLine}
 use Rattle.vring_turns.specs.RxTurn.{RxTurn}

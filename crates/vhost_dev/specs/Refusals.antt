@@ -7,11 +7,7 @@ use Rattle.vring_split.specs.Split.{desc_len, avail_len, used_len}
 use Rattle.vhost_dev.specs.declared.error.VhostErr.{VhostErr}
 use Rattle.vhost_dev.specs.declared.error.VhostErr.TheVariants.{EINVAL, EBUSY, EFAULT, ENOBUFS, EHDR, ENOTSUP}
 use Rattle.vhost_dev.specs.Settings.{RingSettings, Settings, ring_at, asks_more, hdr_of}
-
--- the first of the reasons that hold
-abbrev pub first_reason : List (Bool × VhostErr) → Option VhostErr
-first_reason [] = None
-first_reason (reason ∷ reasons) = if reason.0 then Some reason.1 else first_reason reasons
+use Rattle.tap_ground.specs.Options.{first_that_holds as first_reason}
 
 -- Reasons.
 
