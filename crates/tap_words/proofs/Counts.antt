@@ -15,7 +15,8 @@ choose true x y p q = p
 choose false x y p q = q
 
 when_fits : (b : Bool) (r : Request) → CountFits (Some r) → CountFits (when b r)
-when_fits b r p = choose b (Some r) None p tt
+when_fits true r p = p
+when_fits false r p = tt
 
 plain_fits : (json : Bool) (seed : Option ℕ) → CountFits (option_map (λ n. Plain n json) seed)
 plain_fits json None = tt
