@@ -1,5 +1,5 @@
 -- This project's own: a queue of frames, from which one at a time is taken in hand.
-use Rattle.std.specs.Prelude.{◌≡◌, ℕ, ◌+◌, ◌-◌, ◌^◌, ◌≤◌, min, map, Bool, List, [], ◌∷◌, ◌++◌, Option, Some, None}
+use Rattle.std.specs.Prelude.{◌≡◌, ℕ, ◌+◌, ◌-◌, map, Bool, List, [], ◌∷◌, ◌++◌, Option, Some, None}
 use Rattle.std.specs.Option.{option_to_list}
 use Rattle.tap_frame.specs.declared.name.Name.{Name}
 use Rattle.tap_frame.specs.Frame.{FrameValue}
@@ -10,7 +10,6 @@ use Rattle.tap_ledger.specs.declared.fate.Cause.TheVariants.{NoQueue, Filtered, 
 use Rattle.tap_ledger.specs.declared.hand.Hand.{Hand}
 use Rattle.tap_ledger.specs.declared.hand.Hand.TheVariants.{Got, NotReady, Off, NoMemory}
 use Rattle.tap_ledger.specs.declared.hand.OutFrame.{OutFrame}
-use Rattle.tap_ground.specs.Counts.{Rose}
 
 -- what a queue is to a contract
 pub record QueueState : Type 0 where

@@ -1,5 +1,5 @@
 -- This project's own: the scenarios that are run so far: none at all, and runs on one file.
-use Rattle.std.specs.Prelude.{ℕ, Bool, true, false, ◌&&◌, ◌==◌, nat_le, if◌then◌else◌, List, [], ◌∷◌, length, Option, Some, None}
+use Rattle.std.specs.Prelude.{ℕ, Bool, false, ◌&&◌, ◌==◌, nat_le, if◌then◌else◌, List, [], ◌∷◌, length, Option, Some, None}
 use Rattle.std.specs.List.{list_all}
 use Rattle.tap_frame.specs.declared.header.Hdr.{Hdr}
 use Rattle.scen_words.specs.declared.command.Command.{Command}

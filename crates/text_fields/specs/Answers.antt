@@ -1,5 +1,5 @@
 -- This project's own: what reading one field answers, unless memory runs out.
-use Rattle.std.specs.Prelude.{◌≡◌, Result, Ok, Err}
+use Rattle.std.specs.Prelude.{◌≡◌, Result, Err}
 use Rattle.tap_ground.specs.declared.error.OrMemory.{OrMemory}
 use Rattle.tap_ground.specs.declared.error.OrMemory.TheVariants.{Fault, NoMemory}
 use Rattle.text_fields.specs.declared.fault.FieldFault.{FieldFault}

@@ -1,5 +1,5 @@
 -- This project's own, after Linux's vhost: why a control call is refused, the first reason first.
-use Rattle.std.specs.Prelude.{ℕ, ◌%◌, Bool, not, ◌&&◌, ◌||◌, ◌==◌, nat_lt, nat_le, List, [], ◌∷◌, Option, None, Some, is_some, unwrap_or, if◌then◌else◌}
+use Rattle.std.specs.Prelude.{ℕ, ◌%◌, Bool, not, ◌&&◌, ◌||◌, ◌==◌, nat_lt, nat_le, [], ◌∷◌, Option, is_some, unwrap_or}
 use Rattle.std.specs.Int.{is_power_of_two}
 use Rattle.guest_mem.specs.Memory.{Contents, covers}
 use Rattle.vring_split.specs.declared.layout.Layout.{Layout}

@@ -1,5 +1,5 @@
 -- This project's own: each descriptor of a driver is free, or in one chain that is out.
-use Rattle.std.specs.Prelude.{◌≡◌, ℕ, ◌+◌, ◌<◌, ◌≤◌, ◌==◌, Bool, nat_lt, List, [], ◌∷◌, length, Some, if◌then◌else◌}
+use Rattle.std.specs.Prelude.{◌≡◌, ℕ, ◌+◌, ◌<◌, ◌≤◌, Bool, nat_lt, List, [], ◌∷◌, length, Some, if◌then◌else◌}
 use Rattle.guest_mem.specs.Memory.{Contents}
 use Rattle.vring_drive.specs.Harvests.{harvested}
 use Rattle.vring_drive.specs.Books.{Books, first_books, sent_out, found_out, taken_back}
