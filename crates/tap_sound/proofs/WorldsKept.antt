@@ -14,7 +14,7 @@ use Rattle.scen_text.specs.declared.scenario.Scenario.{Scenario}
 use Rattle.scen_words.specs.declared.command.Command.{Command}
 use Rattle.tap_world.specs.declared.event.Event.{Event}
 use Rattle.tap_world.specs.declared.event.Heard.{Heard}
-use Rattle.tap_world.specs.Then.{◌>>=◌}
+use Rattle.tap_ground.specs.Options.{◌>>=◌}
 use Rattle.tap_world.specs.ByNumber.{at}
 use Rattle.tap_world.specs.Setup.{Declared, Numbered, Setup, setup_of}
 use Rattle.tap_world.specs.Line.{File}

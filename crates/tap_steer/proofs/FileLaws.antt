@@ -13,7 +13,8 @@ use Rattle.tap_steer.specs.declared.operation.Op.TheVariants as op
 use Rattle.tap_steer.specs.declared.operation.TheConstants.{IFF_ATTACH_QUEUE, IFF_DETACH_QUEUE}
 use Rattle.tap_steer.specs.declared.settings.Settings.{Settings}
 use Rattle.tap_steer.specs.Table.{Table, new_file, first, file_at, device_of, home, is_set, with_file}
-use Rattle.tap_steer.specs.Rules.{attach_rules, detach_rules, no_flag_rules, first_broken, has_device, is_backed, refuse, resize_rules, set_iff_rules, shut_rules}
+use Rattle.tap_ground.specs.Options.{first_that_holds}
+use Rattle.tap_steer.specs.Rules.{attach_rules, detach_rules, no_flag_rules, has_device, is_backed, refuse, resize_rules, set_iff_rules, shut_rules}
 use Rattle.tap_steer.specs.After.{attached_file, backed, standing, set_iff, enabled, disabled, left, attach_queue, detach_queue, shut, set_at, set_device, learn_at, learn, tick, back, resized, resize, after, after_all}
 use Rattle.tap_steer.specs.Laws.{AreLawful, HaveNumbersLeft, IsInUse, StaysOrIsEnabled}
 use Rattle.tap_steer.proofs.SoundLemmas.{file_same, file_other}
@@ -267,12 +268,12 @@ files_are_in_use programs capacities flows operations lawful =
 
 -- ---- numbers that are left
 
-attach_left : (t : Table) (file flags : ℕ) (b : Bool) → is_set flags IFF_ATTACH_QUEUE ≡ b → b ≡ true → refuse t (op.SetQueue file flags) ≡ None → first_broken (attach_rules t file) ≡ None
+attach_left : (t : Table) (file flags : ℕ) (b : Bool) → is_set flags IFF_ATTACH_QUEUE ≡ b → b ≡ true → refuse t (op.SetQueue file flags) ≡ None → first_that_holds (attach_rules t file) ≡ None
 unfolding refuse
 attach_left t file flags b is on free =
-    subst (λ (c : Bool). first_broken (cond c (attach_rules t file) (cond (is_set flags IFF_DETACH_QUEUE) (detach_rules t file) no_flag_rules)) ≡ None) (is ∙ on) free
+    subst (λ (c : Bool). first_that_holds (cond c (attach_rules t file) (cond (is_set flags IFF_DETACH_QUEUE) (detach_rules t file) no_flag_rules)) ≡ None) (is ∙ on) free
 
-attach_epoch : (t : Table) (file : ℕ) → first_broken (attach_rules t file) ≡ None → (file_at t file).epoch < 65535
+attach_epoch : (t : Table) (file : ℕ) → first_that_holds (attach_rules t file) ≡ None → (file_at t file).epoch < 65535
 unfolding attach_rules
 attach_epoch t file free = leb-false 65535 (file_at t file).epoch (all_unbroken (attach_rules t file) free).1.0
 

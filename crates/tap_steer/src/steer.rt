@@ -3,7 +3,6 @@
 ghost use Rattle.std.specs.Prelude.{◌≡◌, ◌<◌, length, None, IsTrue, IsNone, IfSome, IfOk, All, ◌↔◌};
 ghost use Rattle.std.specs.Option.{option_map};
 
-use crate::error::TapErr;
 use crate::operation::Op;
 use crate::selection::Select;
 use crate::state::State;
@@ -11,7 +10,7 @@ use ebpf_code::Program;
 use std::alloc::{AllocError, Global};
 use std::marker::Model;
 use tap_frame::Shape;
-use tap_ledger::Side;
+use tap_ledger::{Side, TapErr};
 
 /// How many names of devices there are.
 pub const NAMES: usize = 64;

@@ -33,6 +33,8 @@ pub use crate::laws::{
     receive_ends, receive_examples, receive_ready, receive_standing, receive_turns, transmit_ends,
     transmit_examples, transmit_ready, transmit_standing, transmit_turns,
 };
-pub use crate::limits::{is_enough, is_published};
+pub use crate::limits::{
+    MOST_BYTES, MOST_CHAINS, MOST_PACKETS, PUBLISHES_AT, is_enough, is_published,
+};
 pub use crate::stage::{After, RxStage, TxStage};
 pub use crate::step::Step;
