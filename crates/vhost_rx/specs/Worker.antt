@@ -11,6 +11,7 @@ use Rattle.vring_turns.specs.declared.end.End.TheVariants.{Off, NoMemory}
 use Rattle.vring_turns.specs.declared.stage.RxStage.{RxStage}
 use Rattle.vring_turns.specs.declared.stage.RxStage.TheVariants as stage
 use Rattle.vring_turns.specs.Ring.{Ring, done_in, room_in}
+use Rattle.vring_turns.specs.Turn.{most_packets, most_bytes, most_chains, publishes_at}
 use Rattle.vring_turns.specs.Stage.{need_at, has_in_hand, gathers_at, copies_at, rx_stopped_at, rx_is_publishing, rx_is_over}
 use Rattle.vring_turns.specs.RxTurn.{RxTurn, RxState, quota, rx_at, rx_hands, rx_step, rx_without_event}
 use Rattle.vring_turns.specs.declared.step.Step.{Step}
@@ -113,10 +114,10 @@ pub record HasChains (t : RxTurn) : Type 0 where
 
 -- it has not done enough where it goes on, and there are places for what it may still publish
 pub record HasPlaces (t : RxTurn) (r : Reserved) : Type 0 where
-  pub packets : counts_at t.stage ≡ true → t.packets < 256
-  pub bytes : counts_at t.stage ≡ true → t.bytes < 524288
-  pub handled : copies_after t.stage ≡ true → t.handled < 1024
-  pub few : few_done_at t.stage ≡ true → done_in r.queue < 64
+  pub packets : counts_at t.stage ≡ true → t.packets < most_packets
+  pub bytes : counts_at t.stage ≡ true → t.bytes < most_bytes
+  pub handled : copies_after t.stage ≡ true → t.handled < most_chains
+  pub few : few_done_at t.stage ≡ true → done_in r.queue < publishes_at
   pub reserved : turn_places + done_in r.queue ≤ r.reserved + t.handled
 
 pub record IsSteady (w : Worker) (r : Reserved) : Type 0 where

@@ -14,11 +14,8 @@ use std::alloc::{AllocError, Global};
 use std::marker::Model;
 use vhost_queue::Vq;
 use vring_split::Layout;
-use vring_turns::lie_in;
+use vring_turns::{MOST_QUOTA, lie_in};
 use vring_walk::{Fetched, Segment, Segments, chains_are_usable, fetch};
-
-/// How many chains one frame may go into.
-const MOST_CHAINS: usize = 1024;
 
 /// A chain that is gathered: its head, and how many segments and bytes it has.
 #[derive(Clone, Copy, Debug, PartialEq, Eq)]
@@ -86,7 +83,7 @@ impl Chains {
         ensures { IfOk result (λ c. c ≡ []) }
     {
         Ok(Chains {
-            kept: Vec::with_capacity(alloc, MOST_CHAINS)?,
+            kept: Vec::with_capacity(alloc, MOST_QUOTA)?,
             room: Segments::new(alloc)?,
             had: 0,
         })

@@ -10,8 +10,8 @@ ghost use Rattle.vring_turns.specs.RxTurn.{rx_begun, rx_report, quota};
 
 use crate::chains::Chains;
 use crate::stages::{
-    copies_after, copies_at, counts_at, few_done_at, gathers_at, has_in_hand,
-    is_publishing, stopped_at,
+    copies_after, copies_at, counts_at, few_done_at, gathers_at, has_in_hand, is_publishing,
+    stopped_at,
 };
 use guest_mem::Memory;
 use std::alloc::{AllocError, Global};
@@ -20,7 +20,7 @@ use tap_frame::{Frame, Name};
 use vhost_queue::Vq;
 use vring_split::Layout;
 use vring_turns::{
-    End, MOST_BYTES, MOST_CHAINS, MOST_PACKETS, PUBLISHES_AT, RxStage, Step, TurnEnd,
+    End, MOST_BYTES, MOST_CHAINS, MOST_PACKETS, MOST_QUOTA, PUBLISHES_AT, RxStage, Step, TurnEnd,
 };
 
 /// What a step of a receive worker answers.
@@ -193,7 +193,7 @@ impl RxWorker {
     pub(crate) fn quota(&self) -> usize
         ensures { result ≡ quota self.now.turn.mergeable }
     {
-        if self.mergeable { 1024 } else { 1 }
+        if self.mergeable { MOST_QUOTA } else { 1 }
     }
 
     /// What the turn did so far, with an end.

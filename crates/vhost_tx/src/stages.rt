@@ -28,7 +28,7 @@ pub fn stopped_at(stage: TxStage) -> Option<RingFault>
     ensures { result ≡ tx_stopped_at stage }
 {
     match stage {
-        TxStage::NoticesOff { fault } => fault,
+        TxStage::NoticesOff { fault: Some(fault) } => Some(fault),
         TxStage::Publish { end: Some(end) } | TxStage::Ended(end) => end.fault(),
         _ => None,
     }
