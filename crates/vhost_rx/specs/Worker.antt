@@ -15,6 +15,8 @@ use Rattle.vring_turns.specs.Turn.{most_packets, most_bytes, most_chains, publis
 use Rattle.vring_turns.specs.Stage.{need_at, has_in_hand, gathers_at, copies_at, rx_stopped_at, rx_is_publishing, rx_is_over}
 use Rattle.vring_turns.specs.RxTurn.{RxTurn, RxState, quota, rx_at, rx_hands, rx_step, rx_without_event}
 use Rattle.vring_turns.specs.declared.step.Step.{Step}
+use Rattle.vring_turns.specs.Standing.{RxStands}
+use Rattle.vring_turns.specs.Ready.{RxReady}
 use Rattle.vring_turns.specs.Hands.{Hands, Moves}
 use Rattle.tap_ledger.specs.declared.hand.Hand.{Hand}
 use Rattle.tap_ledger.specs.declared.hand.Hand.TheVariants as hand
@@ -111,6 +113,10 @@ pub record HasChains (t : RxTurn) : Type 0 where
   pub enough : copies_at t.stage ≡ true → need_in t ≤ room_in t.chains
   pub most : length t.chains ≤ quota t.mergeable
   pub none : gathers_at t.stage ≡ false → copies_at t.stage ≡ false → length t.chains ≡ 0
+
+-- a turn that stands rightly and is ready has them so
+abbrev pub ReadyTurnsHaveChains : Type 0
+ReadyTurnsHaveChains = (t : RxTurn) (q : Queue) → RxStands t q → RxReady t q → HasChains t
 
 -- it has not done enough where it goes on, and there are places for what it may still publish
 pub record HasPlaces (t : RxTurn) (r : Reserved) : Type 0 where
