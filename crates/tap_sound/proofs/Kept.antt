@@ -13,7 +13,8 @@ use Rattle.tap_world.specs.declared.event.EventKind.{EventKind}
 use Rattle.tap_world.specs.declared.event.EventKind.TheVariants as event
 use Rattle.tap_world.specs.Setup.{opening_table}
 use Rattle.tap_world.specs.World.Doing.{Begun}
-use Rattle.tap_world.specs.World.{Actor, Published, World, newest, table}
+use Rattle.tap_world.specs.declared.told.Published.{Published}
+use Rattle.tap_world.specs.World.{Actor, World, newest, table}
 use Rattle.tap_world.specs.Effect.{Effect, OnFiles, Onward, actor_after, files_after, guests_after, with_effect}
 use Rattle.tap_world.specs.Effect.Onward.{Ends, Goes, Stays}
 use Rattle.tap_world.specs.Effect.OnFiles.{NoFile, OnFile}

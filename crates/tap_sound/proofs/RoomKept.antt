@@ -15,10 +15,12 @@ use Rattle.tap_world.specs.declared.event.Heard.{Heard}
 use Rattle.tap_world.specs.ByNumber.{at}
 use Rattle.scen_words.specs.declared.command.Command.{Command}
 use Rattle.tap_world.specs.Setup.{Setup, opening_table}
-use Rattle.tap_world.specs.Line.{Entry, File, claimed, freed, is_over}
+use Rattle.tap_world.specs.declared.line.Entry.{Entry}
+use Rattle.tap_world.specs.Line.{File, claimed, freed, is_over}
 use Rattle.tap_world.specs.LineSteps.{Change, changed}
 use Rattle.tap_world.specs.LineSteps.Change.{Sizes}
-use Rattle.tap_world.specs.World.{Actor, Doing, Published, World, holds_writer, table}
+use Rattle.tap_world.specs.declared.told.Published.{Published}
+use Rattle.tap_world.specs.World.{Actor, Doing, World, holds_writer, table}
 use Rattle.tap_world.specs.World.Doing.{Begun, Resizes, Shrinks}
 use Rattle.tap_world.specs.Effect.{OnFiles, files_after}
 use Rattle.tap_world.specs.Effect.OnFiles.{NoFile, OnFile}

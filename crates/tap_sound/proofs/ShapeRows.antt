@@ -249,13 +249,13 @@ own_op s w me seen d c = where_then (Shape s w me seen d c) (op_of s c) _
 publishes : (s : Setup) (w : World) (me seen : ℕ) (d : Doing) (c : Command) → AllShaped s w me seen d c (tables.publishes s w me d c)
 publishes s w me seen (Learns file ether) c =
     where_only (Shape s w me seen (Learns file ether) c) (is_none w.writer) (tables.learns_flow w file ether)
-    (λ b. Learning file (hash ether) refl refl refl refl refl (refl, refl))
+    (λ b. Learning file (hash ether) refl refl refl refl refl (none_of w.writer b) (refl, refl))
 publishes s w me seen d c = own_op s w me seen d c
 
 teaches : (s : Setup) (w : World) (me seen : ℕ) (d : Doing) (c : Command) → AllShaped s w me seen d c (tx_turns.teaches w d)
 teaches s w me seen (Teaches file t told f) c = where_only (Shape s w me seen (Teaches file t told f) c) (is_none w.writer)
     (record (only (Goes (newest w + 1) (Transmits file t told) (found.Version (newest w + 1))) w) { ops = op.Learn file (hash f.made) ∷ [] })
-    (λ b. Learning file (hash f.made) refl refl refl refl refl (refl, refl, refl, refl, λ v h. h))
+    (λ b. Learning file (hash f.made) refl refl refl refl refl (none_of w.writer b) (refl, refl, refl, refl, λ v h. h))
 teaches s w me seen d c = tt
 
 -- what a row gives, by its equation

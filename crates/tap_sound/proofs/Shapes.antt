@@ -110,7 +110,7 @@ pub data Shape (s : Setup) (w : World) (me seen : ℕ) (d : Doing) (c : Command)
   Withdrawing : (x : Op) (file : ℕ) → d ≡ Withdraws file → op_of s c ≡ Some x → refuse (table s w) x ≡ None
       → tables.publishes_with w x w.writer (λ version. Goes version (Withdrawn file version) (found.Version version)) ≡ r → Shape s w me seen d c r
   Learning : (file hash : ℕ) → r.ops ≡ op.Learn file hash ∷ [] → r.files ≡ NoFile → r.guests ≡ NoGuest → r.vhosts ≡ NoVhost
-      → r.writer ≡ w.writer → Alike d r.onward → Shape s w me seen d c r
+      → r.writer ≡ w.writer → w.writer ≡ None → Alike d r.onward → Shape s w me seen d c r
   BackPublishes : (vhost ring : ℕ) (asked : Option ℕ) → c ≡ command.Backend vhost ring asked
       → back.publishes_back w d (command.Backend vhost ring asked) ≡ Some r → Shape s w me seen d c r
   Owning : (vhost ring : ℕ) (asked : Option ℕ) → c ≡ command.Backend vhost ring asked

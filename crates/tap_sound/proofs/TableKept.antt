@@ -22,7 +22,8 @@ use Rattle.tap_world.specs.declared.event.Found.TheVariants as found
 use Rattle.tap_world.specs.Causes.{tap_text}
 use Rattle.tap_world.specs.Setup.{Setup, op_of, opening_table}
 use Rattle.tap_world.specs.Guests.{Vhost, is_ring}
-use Rattle.tap_world.specs.World.{Doing, Published, World, newest, table}
+use Rattle.tap_world.specs.declared.told.Published.{Published}
+use Rattle.tap_world.specs.World.{Doing, World, newest, table}
 use Rattle.tap_world.specs.World.Doing.{Backed, Backs, Begun, Changes, Disowned, Opens, Owns, Released, Resizes, Unbacked, Withdraws}
 use Rattle.tap_world.specs.Effect.{Effect, OnFiles, Onward, files_after, only}
 use Rattle.tap_world.specs.Effect.OnFiles.{NoFile, OnFile}

@@ -36,7 +36,7 @@ use Rattle.tap_steer.specs.declared.selection.Select.TheVariants as select
 use Rattle.tap_steer.specs.Select as steer
 use Rattle.tap_steer.specs.Table.{Table}
 use Rattle.tap_world.specs.Frames.{bad_in, ether_in, least_in, sent_bytes, sent_front}
-use Rattle.tap_world.specs.Line.Standing.{Out}
+use Rattle.tap_world.specs.declared.line.Standing.TheVariants.{Out}
 use Rattle.tap_world.specs.LineSteps.Change.{Leaves, Sizes}
 use Rattle.tap_world.specs.Effect.{OnFiles}
 use Rattle.tap_world.specs.Effect.OnFiles.{OnFile}

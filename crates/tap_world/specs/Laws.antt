@@ -11,7 +11,7 @@ use Rattle.tap_world.specs.declared.event.Event.{Event}
 use Rattle.tap_world.specs.Frames.{FrameText, bad_in, text_in}
 use Rattle.tap_world.specs.Setup.{Setup}
 use Rattle.tap_world.specs.Line.{Entry}
-use Rattle.tap_world.specs.Line.Standing.{Out}
+use Rattle.tap_world.specs.declared.line.Standing.TheVariants.{Out}
 use Rattle.tap_world.specs.World.{World}
 use Rattle.tap_world.specs.Runs.{IsOrder}
 use Rattle.tap_world.specs.Sound.{InThreeParts, IsSound, is_cut, rank}

@@ -6,25 +6,13 @@ use Rattle.tap_frame.specs.declared.name.Name.{Name}
 use Rattle.tap_ledger.specs.declared.fate.Fate.{Fate}
 use Rattle.tap_ledger.specs.declared.fate.Fate.TheVariants.{Waiting, Discarded}
 use Rattle.tap_ledger.specs.declared.fate.Cause.TheVariants as cause
+use Rattle.tap_world.specs.declared.line.Standing.TheVariants.{Batched, Claimed, Cut, Out, Ready}
 use Rattle.tap_world.specs.Then.{only_if}
 
+pub use Rattle.tap_world.specs.declared.line.Entry.{Entry}
+pub use Rattle.tap_world.specs.declared.line.Standing.{Standing}
+
 -- ---- the line
-
--- Where a frame stands: in the ring, at a place that an actor has claimed and not yet put, or put; in the batch; out of
--- the line, with its fate; or cut by a resize.
-pub data Standing : Type 0 where
-  Claimed : ℕ → Standing
-  Ready : Standing
-  Batched : Standing
-  Out : Fate → Standing
-  Cut : Standing
-
--- a frame of the line: its name, the epoch of its place, its Ethernet bytes, and where it stands
-pub record Entry : Type 0 where
-  pub name : Name
-  pub epoch : ℕ
-  pub len : ℕ
-  pub stands : Standing
 
 -- A file: the place of the line's first entry, the capacity of its ring and how often it was resized, the line, the
 -- gate with its epoch, the worker that owns it, and the vhost that has its front frame in hand.

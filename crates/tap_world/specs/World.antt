@@ -2,18 +2,19 @@
 use Rattle.std.specs.Prelude.{ℕ, ◌==◌, List, length, map, take, slice_get, Bool, false, Option}
 use Rattle.std.specs.Option.{option_map_or}
 use Rattle.tap_frame.specs.declared.name.Name.{Name}
-use Rattle.tap_steer.specs.declared.operation.Op.{Op}
 use Rattle.tap_steer.specs.Table.{Table}
 use Rattle.tap_steer.specs.After.{after_all}
 use Rattle.tap_trace.specs.declared.causes.TapText.{TapText}
 use Rattle.tap_trace.specs.declared.turn.ChainText.{ChainText}
-use Rattle.tap_trace.specs.declared.trace.AnswerLine.{AnswerLine}
 use Rattle.vring_turns.specs.RxTurn.{RxTurn}
 use Rattle.vring_turns.specs.TxTurn.{TxTurn}
 use Rattle.tap_world.specs.Frames.{Front}
 use Rattle.tap_world.specs.Setup.{Numbered, Setup, opening_table}
 use Rattle.tap_world.specs.Line.{File}
 use Rattle.tap_world.specs.Guests.{Guest, Vhost}
+
+pub use Rattle.tap_world.specs.declared.told.Published.{Published}
+pub use Rattle.tap_world.specs.declared.told.Said.{Said}
 
 -- a frame that the host has: its name, and the hash of its flow
 pub record HostFrame : Type 0 where
@@ -53,18 +54,6 @@ pub record Actor : Type 0 where
   pub seen : ℕ
   pub script : List Numbered
   pub doing : Doing
-
--- an operation of the table, with its phase, actor and command
-pub record Published : Type 0 where
-  pub phase : ℕ
-  pub actor : ℕ
-  pub command : ℕ
-  pub op : Op
-
--- an answer, with its phase
-pub record Said : Type 0 where
-  pub phase : ℕ
-  pub line : AnswerLine
 
 -- A world: the operations; files, guests and vhosts by number; the names that were given to the host, and that were
 -- dropped; the actor that holds the writer; the number of the phase; its actors; and the answers given.

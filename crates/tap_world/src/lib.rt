@@ -15,8 +15,12 @@
 
 mod event;
 mod laws;
+mod line;
+mod told;
 
 pub use event::{Event, EventKind, Found, Heard};
 pub use laws::{
     frames_agree, leave_in_order, name_stands_once, one_order, upgrade_has_same_orders, worked_run,
 };
+pub use line::{Entry, Standing};
+pub use told::{Published, Said};
