@@ -8,14 +8,13 @@ ghost use Rattle.vring_turns.specs.Ring.{LieIn, bytes_in, room_in, segments_of, 
 ghost use Rattle.vring_turns.specs.ReceiveImage.{shares};
 ghost use Rattle.vhost_rx.specs.Kept.{kept_shares};
 
-use crate::lay::lay;
 use guest_mem::Memory;
 use std::alloc::{AllocError, Global};
 use std::marker::Model;
 use vhost_queue::Vq;
 use vring_split::Layout;
 use vring_turns::{MOST_QUOTA, lie_in};
-use vring_walk::{Fetched, Segment, Segments, chains_are_usable, fetch};
+use vring_walk::{Fetched, Segment, Segments, chains_are_usable, fetch, scatter};
 
 /// A chain that is gathered: its head, and how many segments and bytes it has.
 #[derive(Clone, Copy, Debug, PartialEq, Eq)]
@@ -140,7 +139,7 @@ impl Chains {
           bytes = laid mem.old.bytes (segments_of self.now) (front.now ++ behind.now);
         } }
     {
-        lay(mem, self.room.list(), front, behind);
+        scatter(mem, self.room.list(), front, behind);
     }
 
     /// All of them are done, with the bytes that each got of so many.

@@ -9,8 +9,8 @@
 
 mod chains;
 mod fetches;
+mod front;
 mod laws;
-mod lay;
 mod stages;
 mod steps;
 mod ways;
