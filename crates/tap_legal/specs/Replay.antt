@@ -23,15 +23,13 @@ use Rattle.tap_trace.specs.declared.kind.Kind.{Kind}
 use Rattle.tap_trace.specs.declared.kind.Kind.TheVariants as kind
 use Rattle.tap_trace.specs.declared.turn.ChainText.{ChainText}
 use Rattle.tap_trace.specs.declared.turn.TurnText.TheVariants as text
-use Rattle.tap_world.specs.Then.{◌>>=◌, only_if}
+use Rattle.tap_ground.specs.Options.{◌>>=◌, only_if}
 use Rattle.tap_world.specs.ByNumber.{at, with_at}
 use Rattle.tap_world.specs.Guests.{Vhost, is_ring, turn_of}
-use Rattle.tap_world.specs.declared.line.Entry.{Entry}
-use Rattle.tap_world.specs.declared.line.Standing.TheVariants.{Ready}
-use Rattle.tap_world.specs.StepTurns.{frame_at}
+use Rattle.tap_world.specs.Setup.{kept_frame}
 use Rattle.tap_world.specs.World.{name_of}
 use Rattle.tap_world.specs.StepBackend.{back_answer, back_refusal, unfit_for}
-use Rattle.tap_world.specs.StepControl.{Call, call_of, may_call, peeked, poke_leaves, poke_told, vhost_of}
+use Rattle.tap_world.specs.StepControl.{Call, call_of, may_call, peeked, poke_leaves, poke_told, driven_vhost}
 use Rattle.tap_legal.specs.Numbered.{AnswerAt, EntryAt, OpAt, StepAt}
 use Rattle.tap_legal.specs.Served.{served_by}
 use Rattle.tap_legal.specs.Codes.{same_answer, same_kind}
@@ -128,7 +126,7 @@ abbrev pub vhost_named : Command → Option ℕ
 vhost_named (command.Backend vhost ring file) = Some vhost
 vhost_named (command.RxTurn vhost) = Some vhost
 vhost_named (command.TxTurn vhost) = Some vhost
-vhost_named other = vhost_of other
+vhost_named other = driven_vhost other
 
 -- a control call meets no turn on its ring; here turns are held by their commands
 abbrev pub replay_call : Case → StepAt → Command → Replay → Option Replay
@@ -228,15 +226,11 @@ abbrev pub coming_first : ℕ → List Kind → Coming
 coming_first left [] = NoFrame
 coming_first left (k ∷ ks) = if is_fetch k then coming left (k ∷ ks) else NoFrame
 
--- an entry as it stood in its ring
-abbrev pub placed_entry : EntryAt → Entry
-placed_entry e = record { name = e.at.name; epoch = e.at.epoch; len = e.at.len; stands = Ready }
-
 -- the frame of a name, as it was placed, where it is that of a frame that was sent and accepted
 abbrev pub frame_named : Case → Name → Option FrameValue
 frame_named c name = do
   e ← entry_named c name
-  if is_sent c name then frame_at c.setup (placed_entry e) else None
+  if is_sent c name then kept_frame c.setup name e.at.len else None
 
 -- a frame of zeros under a name, with so many bytes, as far as a frame may have them
 abbrev pub frame_of_length : Name → ℕ → FrameValue
