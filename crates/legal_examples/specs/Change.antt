@@ -1,6 +1,5 @@
 -- This project's own: a trace with one thing changed. Lines of one kind are counted from 0 in their part.
-use Rattle.std.specs.Prelude.{ℕ, zero, suc, List, [], ◌∷◌, map}
-use Rattle.tap_frame.specs.declared.name.Name.{Name}
+use Rattle.std.specs.Prelude.{ℕ, zero, suc, List, [], ◌∷◌}
 use Rattle.tap_ledger.specs.declared.fate.Fate.{Fate}
 use Rattle.tap_trace.specs.declared.answer.Answer.{Answer}
 use Rattle.tap_trace.specs.declared.kind.Kind.{Kind}

@@ -1,13 +1,10 @@
--- This project's own: short scenarios, and the changes of their runs' traces by which one sentence fails. Each verdict was
--- written from the sentences before it was computed.
-use Rattle.std.specs.Prelude.{◌≡◌, ℕ, ◌+◌, List, [], ◌∷◌, ◌++◌, codes, Option, Some, None, true}
-use Rattle.tap_frame.specs.declared.name.Name.{Name}
+-- This project's own: short scenarios, and the changes of their runs' traces by which one sentence fails. Each verdict
+-- was written from the sentences before it was computed.
+use Rattle.std.specs.Prelude.{◌≡◌, ℕ, List, [], ◌∷◌, ◌++◌, codes, Some, None, true}
 use Rattle.tap_frame.specs.declared.reading.BadFrame.TheVariants as bad
 use Rattle.tap_ledger.specs.declared.fate.Cause.TheVariants as cause
-use Rattle.tap_ledger.specs.declared.fate.Fate.{Fate}
 use Rattle.tap_ledger.specs.declared.fate.Fate.TheVariants as fate
 use Rattle.tap_ledger.specs.declared.side.Side.TheVariants.{Tx}
-use Rattle.scen_words.specs.declared.command.Command.TheVariants as command
 use Rattle.tap_trace.specs.declared.answer.Answer.{Answer}
 use Rattle.tap_trace.specs.declared.answer.Answer.TheVariants as answer
 use Rattle.tap_trace.specs.declared.trace.AnswerLine.{AnswerLine}
@@ -17,7 +14,6 @@ use Rattle.tap_trace.specs.declared.trace.OpText.{OpText}
 use Rattle.tap_trace.specs.declared.trace.OpText.TheVariants as text
 use Rattle.tap_trace.specs.declared.trace.PlaceLine.{PlaceLine}
 use Rattle.tap_trace.specs.declared.trace.StepLine.{StepLine}
-use Rattle.tap_trace.specs.declared.trace.Trace.{Trace}
 use Rattle.legal_examples.specs.Change.{change_at, with_answer, with_answers, with_entries, with_fate, with_file, with_line, with_ops, with_seen, with_steps, without}
 use Rattle.legal_examples.specs.Play.{judged, judged_by}
 use Rattle.legal_examples.specs.Texts.{moved, poked}

@@ -166,8 +166,8 @@ alike_trace =
 
 -- ---- a ring that changes its file
 
--- a chain is posted to a transmit ring; then one actor gives the ring a file, one has a turn, one takes the file off, and
--- one gives it another
+-- a chain is posted to a transmit ring; then one actor gives the ring a file, one has a turn, one takes the file off,
+-- and one gives it another
 abbrev pub moved : List ℕ
 moved =
     codes "tapscen 1\nfile 0 1\nfile 1 1\nregion 0 0 65536\nvhost 0 0\nsetiff 0 tap0 5102\n"
