@@ -45,7 +45,7 @@ has_answer c x = list_any (λ (a : AnswerAt). same_told a.told x.told) c.answers
 abbrev pub is_seen_from : Case → AnswerAt → Bool
 is_seen_from c a = nat_le (seen_before c a.told) a.seen && nat_le (newest_before c a.told.phase) a.seen
 
--- and, in addition to the sentences, each version that its command published, since an actor has seen what it published;
+-- and, in addition to the sentences, each version that its command published, since an actor has seen what it does;
 abbrev pub is_seen_own : Case → AnswerAt → Bool
 is_seen_own c a = not (list_any (λ (o : OpAt). nat_lt a.seen o.at.version) (ops_of c a.told.command))
 

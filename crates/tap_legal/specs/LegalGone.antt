@@ -33,8 +33,8 @@ fits_gone c a (answer.Dropped (Some file) (cause.Gone want found shut)) =
     has_row c a file want a.asked && fits_found c a file want found shut
 fits_gone c a other = true
 
--- An operation of a version above SEEN ends WANT, and it is of this phase and of no later command of this actor. One that
--- isn't fails at its own line, and `end` where there is none.
+-- An operation of a version above SEEN ends WANT, and it is of this phase and of no later command of this actor. One
+-- that isn't fails at its own line, and `end` where there is none.
 abbrev pub ends_above : Case → AnswerAt → ℕ → ℕ → OpAt → Bool
 ends_above c a file want o = nat_lt a.seen o.at.version && ends_it c file want o
 

@@ -38,8 +38,7 @@ steps_follow c s t =
     || option_map_or (λ a. option_map_or (λ b. not (is_before b a)) (told_of c t.at.command) true)
     (told_of c s.at.command) true
 
--- Each command on a guest has exactly its steps: none is missing here, and in the replay none is another. One that names
--- a ring which isn't there has none, and answers ENOBUFS.
+-- the ring that a command names; one that names a ring which isn't there has no step
 abbrev pub ring_named : Command → Option ℕ
 ring_named (command.VNum vhost ring n) = Some ring
 ring_named (command.VBase vhost ring n) = Some ring
@@ -51,11 +50,13 @@ ring_named other = None
 abbrev pub has_steps : Command → Bool
 has_steps k = option_map_or is_ring (ring_named k) true
 
+-- the guest of a command that is on one
 abbrev pub guest_named : Case → Command → Option ℕ
 guest_named c (command.Poke guest addr bytes) = Some guest
 guest_named c (command.Peek guest addr len) = Some guest
 guest_named c k = option_map_or (λ v. at c.setup.vhosts v) (vhost_named k) None
 
+-- Each command on a guest has exactly its steps: none is missing here, and in the replay none is another.
 abbrev pub is_finished : ℕ → Asked → ℕ × Replay → Bool
 is_finished guest a r = not (r.0 == guest) || r.1.broken || list_any (λ n. n == a.told.command) r.1.finished
 
@@ -64,6 +65,7 @@ has_its_steps c rs a =
     not (has_steps a.command)
     || option_map_or (λ g. not (list_any (λ r. not (is_finished g a r)) rs)) (guest_named c a.command) true
 
+-- A command on a ring which isn't there answers ENOBUFS.
 abbrev pub answers_no_ring : AnswerAt → Bool
 answers_no_ring a =
     option_map_or (λ k. has_steps k || same_answer a.answer (answer.Vhost ENOBUFS)) a.asked true

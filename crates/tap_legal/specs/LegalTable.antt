@@ -81,7 +81,8 @@ version_in other = None
 -- Each `ok VERSION` is one operation of that command,
 abbrev pub is_published : Case → AnswerAt → Bool
 is_published c a =
-    option_map_or (λ v. list_any (λ (o : OpAt). o.at.version == v) (own_ops c a.told.command)) (version_in a.answer) true
+    option_map_or (λ v. list_any (λ (o : OpAt). o.at.version == v) (own_ops c a.told.command))
+    (version_in a.answer) true
 
 -- and each operation but a learning is one such answer.
 abbrev pub tells_version : ℕ → AnswerAt → Bool

@@ -95,8 +95,8 @@ pub record Replay : Type 0 where
 abbrev pub broken_at : ℕ → Replay → Replay
 broken_at line r = record r { fails = r.fails ++ line ∷ []; broken = true }
 
--- how much a frame needed for which there were too few chains isn't seen in the turn's steps, so the answer's own number
--- stands for it; it is looked at by itself
+-- how much a frame needed for which there were too few chains isn't seen in the turn's steps, so the answer's own
+-- number stands for it; it is looked at by itself
 abbrev pub with_need_of : Answer → Answer → Answer
 with_need_of (answer.Turn p b (text.Short need had) cs) (answer.Turn packets bytes (text.Short n h) chains) =
     answer.Turn packets bytes (text.Short need h) chains
@@ -160,9 +160,10 @@ abbrev pub version_for : AnswerAt → List OpAt → ℕ
 version_for a [] = a.seen
 version_for a (o ∷ os) = o.at.version - 1
 
--- the answer of one that neither sets nor unsets anything: a ring that has none, or the first refusal
-abbrev pub back_wanted : ℕ → ℕ → Option ℕ → Vhost → Contents → Table → Option Answer
-back_wanted vhost ring None v m t = if is_none (ring_at ring v.settings).file then Some answer.Done else None
+-- the answer of one that neither sets nor unsets anything: a ring that has none, or the first refusal; no step is left
+-- where that has no words
+abbrev pub back_wanted : ℕ → ℕ → Option ℕ → Vhost → Contents → Table → Option (Option Answer)
+back_wanted vhost ring None v m t = Some (if is_none (ring_at ring v.settings).file then Some answer.Done else None)
 back_wanted vhost ring (Some file) v m t =
     back_answer (ready_refusal ring m v.settings) (back_refusal t vhost ring (Some file))
     (unfit_for (shape_of t file) v.settings)
@@ -190,9 +191,8 @@ abbrev pub replay_back : Case → StepAt → Command → Replay → Option Repla
 replay_back c s (command.Backend vhost ring file) r = do
   v ← at r.vhosts vhost
   a ← answer_of c s.at.command
-  only_if (is_ring ring && is_none (turn_of ring v))
-      (backed_as c s vhost ring file v
-      (back_wanted vhost ring file v r.memory (table_at c (version_for a (own_ops c s.at.command)))) r)
+  wanted ← back_wanted vhost ring file v r.memory (table_at c (version_for a (own_ops c s.at.command)))
+  only_if (is_ring ring && is_none (turn_of ring v)) (backed_as c s vhost ring file v wanted r)
 replay_back c s other r = None
 
 -- ---- what a receive turn had in hand, read off the steps that come
@@ -244,8 +244,8 @@ lengths_for c command =
     (λ file. map (λ (e : EntryAt). e.at.len) (filter (λ (e : EntryAt). e.file == file) c.entries))
     (served_by c command) []
 
--- Which frame it was that isn't copied is told by no step. Chains that are too short for it are too short for the longest
--- frame of the file, so one of this length stands for it.
+-- Which frame it was that isn't copied is told by no step. Chains that are too short for it are too short for the
+-- longest frame of the file, so one of this length stands for it.
 abbrev pub uncopied : List ℕ → Hand
 uncopied [] = hand.NotReady 0
 uncopied (len ∷ lens) = hand.Got (frame_of_length (name_of 0 0) (fold max len lens))

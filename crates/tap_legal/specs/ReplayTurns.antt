@@ -71,12 +71,18 @@ with_under c ss u q m (Some x) v r =
           (with_turn (turning_on u.turning) None (with_queue (turning_on u.turning) q v)) r.vhosts;
     })
 
--- what the turn answers that is over
+-- what the turn answers that is over; an end without words, which no turn has, is no answer, and no step follows it
 abbrev pub rx_answer : RxTurn → Option Answer
-rx_answer t = option_map (λ e. answer.Turn t.packets t.bytes (end_told e) []) (rx_over t.stage)
+rx_answer t = do
+  e ← rx_over t.stage
+  told ← end_told e
+  Some (answer.Turn t.packets t.bytes told [])
 
 abbrev pub tx_answer : TxTurn → List ChainText → Option Answer
-tx_answer t chains = option_map (λ e. answer.Turn t.packets t.bytes (end_told e) chains) (tx_over t.stage)
+tx_answer t chains = do
+  e ← tx_over t.stage
+  told ← end_told e
+  Some (answer.Turn t.packets t.bytes told chains)
 
 abbrev pub rx_left : Case → List StepAt → Under → Vhost → Replay → RxState × Act → Replay
 rx_left c ss u v r made =

@@ -53,7 +53,7 @@ use Rattle.tap_world.specs.Effect.{Effect, Onward, only}
 use Rattle.tap_world.specs.Effect.OnFiles.{NoFile}
 use Rattle.tap_world.specs.Effect.Onward.{Ends, Goes, Stays}
 use Rattle.tap_world.specs.Stands.{names_of, placed_by, times_in}
-use Rattle.vring_turns.specs.TxRun.{is_giving}
+use Rattle.vring_turns.specs.Stage.{is_giving}
 use Rattle.tap_world.specs.Scripts.{is_kind, next_kind, tx_next_kind}
 use Rattle.tap_world.specs.SoundActors.{can_be}
 use Rattle.vring_turns.specs.TxTurn.{tx_next}

@@ -61,7 +61,7 @@ use Rattle.tap_world.specs.Effect.{Effect, Onward, only}
 use Rattle.tap_world.specs.Effect.OnFiles.{NoFile}
 use Rattle.tap_world.specs.Effect.Onward.{Ends, Goes, Stays}
 use Rattle.tap_world.specs.Stands.{names_of}
-use Rattle.vring_turns.specs.TxRun.{is_giving}
+use Rattle.vring_turns.specs.Stage.{is_giving}
 use Rattle.tap_world.specs.SoundNames.{accepted_by, accepted_in, awaited, got_in}
 use Rattle.tap_world.specs.Scripts.{is_kind, next_kind, tx_next_kind}
 use Rattle.tap_world.specs.Step as rows
