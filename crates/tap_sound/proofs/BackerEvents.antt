@@ -19,7 +19,8 @@ use Rattle.tap_world.specs.World.{Doing, World, newest, table}
 use Rattle.tap_world.specs.World.Doing.{Backed, Backs, Begun, Changes, Disowned, Opened, Opens, Owns, Purges, Released, Resizes, Shrinks, Unbacked, Withdrawn, Withdraws}
 use Rattle.tap_world.specs.Effect.{Effect, Onward, only, ended, OnVhosts, vhosts_after}
 use Rattle.tap_world.specs.Effect.Onward.{Goes}
-use Rattle.tap_world.specs.Sound.{EachActor, WriterIsHeld, holds}
+use Rattle.tap_world.specs.Each.{EachActor}
+use Rattle.tap_world.specs.Sound.{WriterIsHeld, holds}
 use Rattle.tap_world.specs.SoundActors.{can_be}
 use Rattle.tap_world.specs.SoundTable.{IsAsFound, commanded, writing, backer_by, is_on, is_rx_side}
 use Rattle.tap_sound.proofs.Kit.{some_same}

@@ -8,6 +8,7 @@ use Rattle.vhost_dev.specs.declared.error.VhostErr.{VhostErr}
 use Rattle.vhost_dev.specs.Settings.{RingSettings, Settings, at_ring, is_rx, ring_at, ring_of, with_ring}
 use Rattle.vhost_dev.specs.Laws.{BackedAreGood, BackedStayGood, Call, HaveSizes, ReadyIsGood, SizesStay, after, refusal_of, made_by}
 use Rattle.vhost_dev.specs.Laws.Call.{SetAddr, SetBackend, SetBase, SetFeatures, SetNum, UnsetBackend}
+use Rattle.vhost_dev.specs.Device.{BeginAtZero}
 use Rattle.vhost_dev.specs.Lists.{CallsKeepOrder, HaveOrder, IsTimely}
 use Rattle.vhost_dev.specs.Calls.{chosen}
 use Rattle.vhost_dev.specs.Calls as dev
@@ -105,21 +106,17 @@ pub record DevLaws : Type 0 where
 abbrev pub BothRings : Guest → Settings → Type 0
 BothRings g s = IsRing g s.rx × IsRing g s.tx
 
--- the lists of positions begin with the first chain that was published, also after a call
-abbrev BeginFirst : List (ℕ × ℕ) → Type 0
-BeginFirst lists = option_map_or (λ (l : ℕ × ℕ). l.1 == 0) (slice_get lists 0) false ≡ true
-
+-- the lists of positions begin at 0 with the first chain that was published, also after a call
 abbrev HaveFirst : Settings → Type 0
-HaveFirst s = (rx : Bool) → BeginFirst (ring_of rx s).lists
+HaveFirst s = (rx : Bool) → BeginAtZero (ring_of rx s).lists
 
-more_first : (lists : List (ℕ × ℕ)) (l : ℕ × ℕ) → BeginFirst lists → BeginFirst (lists ++ l ∷ [])
-more_first [] l h = absurd (true≢false (sym h))
-more_first (first ∷ lists) l h = h
+more_first : (lists : List (ℕ × ℕ)) (l : ℕ × ℕ) → BeginAtZero lists → BeginAtZero (lists ++ l ∷ [])
+more_first lists l h = (h.0 ++ l ∷ [], ap (λ (k : List (ℕ × ℕ)). k ++ l ∷ []) h.1)
 
-one_first : (ring : ℕ) (change : RingSettings → RingSettings) (s : Settings) → ((r : RingSettings) → BeginFirst r.lists → BeginFirst (change r).lists) → HaveFirst s → HaveFirst (at_ring ring change s)
+one_first : (ring : ℕ) (change : RingSettings → RingSettings) (s : Settings) → ((r : RingSettings) → BeginAtZero r.lists → BeginAtZero (change r).lists) → HaveFirst s → HaveFirst (at_ring ring change s)
 one_first ring change s keep h rx = go (is_rx ring) rx
   where
-    go : (b q : Bool) → BeginFirst (ring_of q (with_ring b (change (ring_of b s)) s)).lists
+    go : (b q : Bool) → BeginAtZero (ring_of q (with_ring b (change (ring_of b s)) s)).lists
     go true true = keep s.rx (h true)
     go true false = h false
     go false true = h true

@@ -8,7 +8,8 @@ use Rattle.vhost_queue.specs.Positions.{IsIdle}
 use Rattle.tap_sound.proofs.Kit.{either, some_same}
 use Rattle.tap_world.specs.Effect.OnVhosts.{OnVhost}
 use Rattle.tap_world.specs.Effect.{Effect}
-use Rattle.tap_world.specs.SoundRings.{Serves, TurnsAreHeld, serves}
+use Rattle.tap_world.specs.Each.{EachActor, EachVhost}
+use Rattle.tap_world.specs.SoundRings.{HaveRings, Serves, TurnsAreHeld, serves}
 use Rattle.tap_world.specs.Guests.{Guest, Vhost, turn_of, is_ring, with_turn, is_free_for}
 use Rattle.std.specs.Option.{option_map_or}
 use Rattle.vhost_dev.specs.Settings.{RingSettings, Settings, ring_at, with_ring}
@@ -17,9 +18,7 @@ use Rattle.tap_trace.specs.declared.kind.Kind.{Kind}
 use Rattle.tap_world.specs.declared.event.Event.{Event}
 use Rattle.tap_world.specs.ByNumber.{at}
 use Rattle.tap_world.specs.Effect.OnGuests.{NoGuest, OnGuest}
-use Rattle.tap_world.specs.Sound.{EachVhost, EachActor}
 use Rattle.tap_world.specs.SoundActors.{CanBe}
-use Rattle.tap_sound.specs.Served.{HaveRings}
 use Rattle.tap_sound.proofs.ServedOn.{OldGuests, A}
 use Rattle.tap_sound.proofs.Taken.{IsStep, both}
 use Rattle.tap_sound.proofs.Turns.{two_rings, is_below}

@@ -8,10 +8,9 @@ use Rattle.tap_world.specs.Effect.{Effect}
 use Rattle.tap_world.specs.Step.{step}
 use Rattle.tap_world.specs.StepTurns as rx_turns
 use Rattle.tap_world.specs.StepTransmits as tx_turns
-use Rattle.tap_world.specs.Sound.{EachActor, EachVhost}
+use Rattle.tap_world.specs.Each.{EachActor, EachVhost}
 use Rattle.tap_world.specs.SoundActors.{CanBe}
-use Rattle.tap_world.specs.SoundRings.{TurnsAreHeld, serves}
-use Rattle.tap_sound.specs.Served.{HaveRings}
+use Rattle.tap_world.specs.SoundRings.{HaveRings, TurnsAreHeld, serves}
 use Rattle.tap_sound.proofs.DriveRings.{back_kept, call_kept}
 use Rattle.tap_sound.proofs.Held.{shape_here}
 use Rattle.tap_sound.proofs.Kit.{where_some}

@@ -20,7 +20,7 @@ use Rattle.tap_world.specs.Effect.{Effect, OnGuests, OnVhosts, Onward, guests_af
 use Rattle.tap_world.specs.Effect.OnGuests.{NoGuest, OnGuest}
 use Rattle.tap_world.specs.Effect.OnVhosts.{NoVhost, OnVhost}
 use Rattle.tap_world.specs.Effect.Onward.{Goes}
-use Rattle.tap_world.specs.Sound.{EachVhost}
+use Rattle.tap_world.specs.Each.{EachVhost}
 use Rattle.tap_world.specs.SoundRings.{IsServed, Serves, StandsWith, TurnsAreHeld, is_about, serves}
 use Rattle.tap_sound.proofs.Kit.{some_same, where_some}
 use Rattle.tap_sound.proofs.RingSteps.{TxLeaves, tx_changes, tx_leaves}

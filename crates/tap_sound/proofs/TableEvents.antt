@@ -8,7 +8,8 @@ use Rattle.tap_world.specs.World.Doing.{Backs, Begun, Opened, Opens, Purges, Res
 use Rattle.tap_world.specs.Effect.{OnFiles, Onward, ended}
 use Rattle.tap_world.specs.Effect.OnFiles.{NoFile, OnFile}
 use Rattle.tap_world.specs.LineSteps.Change.{Cuts, Reopens, Shuts, Sizes}
-use Rattle.tap_world.specs.Sound.{EachActor, WriterIsHeld, holds}
+use Rattle.tap_world.specs.Each.{EachActor}
+use Rattle.tap_world.specs.Sound.{WriterIsHeld, holds}
 use Rattle.tap_world.specs.SoundActors.{can_be}
 use Rattle.tap_world.specs.SoundTable.{Agreed, IsAsFound, expected}
 use Rattle.tap_sound.proofs.Agreeing.{goes_on, reopening, shutting, sizing, steady}

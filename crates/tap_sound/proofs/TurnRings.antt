@@ -21,14 +21,13 @@ use Rattle.tap_world.specs.Effect.OnVhosts.{OnVhost}
 use Rattle.tap_world.specs.Effect.{Onward, actor_after}
 use Rattle.tap_world.specs.Effect.Onward.{Ends, Goes, Stays}
 use Rattle.tap_sound.proofs.Shapes.{RxWay, TxWay}
-use Rattle.tap_world.specs.SoundRings.{Serves, StandsWith, TurnsAreHeld, is_about, serves, IsRing}
+use Rattle.tap_world.specs.Each.{EachActor, EachVhost}
+use Rattle.tap_world.specs.SoundRings.{HaveRings, IsRing, Serves, StandsWith, TurnsAreHeld, is_about, serves}
 use Rattle.tap_world.specs.Guests.{Guest, Vhost, turn_of}
 use Rattle.vhost_dev.specs.Settings.{RingSettings}
 use Rattle.tap_world.specs.declared.event.Event.{Event}
 use Rattle.tap_world.specs.ByNumber.{at}
-use Rattle.tap_world.specs.Sound.{EachVhost, EachActor}
 use Rattle.tap_world.specs.SoundActors.{CanBe}
-use Rattle.tap_sound.specs.Served.{HaveRings}
 use Rattle.tap_sound.proofs.ServedOn.{OldGuests}
 use Rattle.tap_sound.proofs.Taken.{IsStep}
 use Rattle.tap_sound.proofs.Turned.{at_is, itself, is_at, others}

@@ -32,7 +32,7 @@ use Rattle.tap_world.specs.StepBackend as back
 use Rattle.tap_world.specs.StepControl as control
 use Rattle.tap_world.specs.StepTurns as rx_turns
 use Rattle.tap_world.specs.StepTransmits as tx_turns
-use Rattle.tap_world.specs.Sound.{EachVhost}
+use Rattle.tap_world.specs.Each.{EachVhost}
 use Rattle.tap_world.specs.SoundRings.{IsActor, TurnsAreHeld, holds_turn, is_about, ring_in}
 use Rattle.tap_world.specs.SoundActors.{can_be, sets, unsets}
 use Rattle.tap_sound.proofs.Kit.{either, some_same, then_some}

@@ -81,7 +81,7 @@ last_that test (e ∷ es) = or_here (test e.stands) (last_that test es)
 abbrev pub claimed : File → ℕ
 claimed f = f.first + length f.line
 
--- how many places are free again: of entries that are out, in the batch, or cut
+-- the first place, and as many more as there are entries whose place is free again: out, in the batch, or cut
 abbrev pub freed : File → ℕ
 freed f = f.first + count (λ s. not (in_ring s)) f.line
 
@@ -89,7 +89,7 @@ freed f = f.first + count (λ s. not (in_ring s)) f.line
 abbrev pub front_place : File → ℕ
 front_place f = option_map_or (λ i. f.first + i) (first_that in_ring f.line) (claimed f)
 
--- the ring's front, where it is ready
+-- this place in the list, where the entry there is ready
 abbrev pub entry_ready : Option Entry → ℕ → Option ℕ
 entry_ready e i = only_if (option_map_or (λ (x : Entry). is_ready x.stands) e false) i
 

@@ -25,7 +25,7 @@ pub data Doing : Type 0 where
   Opened : ℕ → Doing  -- to publish
   Withdraws : ℕ → Doing  -- a detach, to publish
   Withdrawn : ℕ → ℕ → Doing  -- to shut the gate; and the version that it published
-  Purges : ℕ → ℕ → Doing  -- to empty batch and ring
+  Purges : ℕ → ℕ → Doing  -- to empty batch and ring; and the version that it published
   Resizes : ℕ → ℕ → Doing  -- a resize, to change the capacity to this one
   Shrinks : ℕ → ℕ → ℕ → Doing  -- to cut what is over, and to publish; the claim count at its resize, and its cuts
   Routed : ℕ → ℕ → ℕ → Doing  -- a send with a row: its file and epoch, and the length that is kept
