@@ -34,7 +34,7 @@ use Rattle.tap_sound.proofs.Follows.{AllFollow, Follows, as_doing, at_kind, firs
 calling : (w : World) (actor seen : ℕ) (c : Command) → HasForm (form_of c) (event.Drive ∷ []) → AllFollow Begun c event.Drive (control.calls w actor seen c)
 calling w actor seen c h =
     let P : Effect → Type 0 = Follows Begun c event.Drive in
-    where_then P (control.vhost_of c) _ (λ vhost e1. where_then P (at w.vhosts vhost) _ (λ v e2. where_then P (at w.guests v.guest) _
+    where_then P (control.driven_vhost c) _ (λ vhost e1. where_then P (at w.vhosts vhost) _ (λ v e2. where_then P (at w.guests v.guest) _
     (λ g e3. where_then P (control.call_of c v g.memory) _ (λ x e4. where_only P _ (control.call_effect w seen vhost v.guest x) (λ b. h)))))
 
 finding_off : (w : World) (seen : ℕ) (c : Command) → HasForm (form_of c) (event.Owner ∷ []) → AllFollow Begun c event.Owner (rx_turns.finds_off w seen Begun c)
@@ -43,13 +43,13 @@ finding_off w seen c h =
     where_then P (rx_turns.turn_on c) _ (λ t e1. where_then P (at w.vhosts t.0) _ (λ v e2. where_then P (at w.guests v.guest) _
     (λ g e3. where_then P (rx_turns.is_off t.0 t.1 v) _ (λ told e4. where_only P _ (rx_turns.off_told w seen v g.memory told) (λ b. h)))))
 
-rx_first : (w : World) (actor n seen vhost : ℕ) → AllFollow Begun (command.RxTurn vhost) event.Notices (tx_turns.begins w actor n seen (command.RxTurn vhost))
+rx_first : (w : World) (actor n seen vhost : ℕ) → AllFollow Begun (command.RxTurn vhost) event.Notices (tx_turns.turn_begins w actor n seen (command.RxTurn vhost))
 rx_first w actor n seen vhost =
     let P : Effect → Type 0 = Follows Begun (command.RxTurn vhost) event.Notices in
     where_then P (at w.vhosts vhost) _ (λ v e2. where_then P (at w.guests v.guest) _
     (λ g e3. where_then P v.settings.rx.file _ (λ file e4. where_if P _ (rx_turns.rx_steps_on w actor seen vhost file (rx_begun v.settings.mrg (hdr_of v.settings)) v g.memory) (λ b es h. inr (refl, h)))))
 
-tx_first : (w : World) (actor n seen vhost : ℕ) → AllFollow Begun (command.TxTurn vhost) event.Notices (tx_turns.begins w actor n seen (command.TxTurn vhost))
+tx_first : (w : World) (actor n seen vhost : ℕ) → AllFollow Begun (command.TxTurn vhost) event.Notices (tx_turns.turn_begins w actor n seen (command.TxTurn vhost))
 tx_first w actor n seen vhost =
     let P : Effect → Type 0 = Follows Begun (command.TxTurn vhost) event.Notices in
     where_then P (at w.vhosts vhost) _ (λ v e2. where_then P (at w.guests v.guest) _

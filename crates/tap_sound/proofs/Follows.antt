@@ -107,7 +107,7 @@ at_file_kind P (Some f) kind k e h = at_kind P k (kind f) e (h f)
 
 refuses : (w : World) (actor : ℕ) (d e : Doing) (c : Command) (x : Option TapErr) → HasForm (left_of d c) (event.Look ∷ [])
     → ((es : List EventKind) → HasForm (left_of e c) es → HasForm (left_of d c) (event.Look ∷ es))
-    → Follows d c event.Look (tables.approved w actor e x)
+    → Follows d c event.Look (tables.decided w actor e x)
 refuses w actor d e c (Some r) stop on = stop
 refuses w actor d e c None stop on = on
 

@@ -30,7 +30,8 @@ use Rattle.tap_world.specs.Step.{row, step}
 use Rattle.tap_world.specs.Each.{EachActor, EachFile}
 use Rattle.tap_world.specs.SoundActors.{CanBe, can_be}
 use Rattle.tap_world.specs.SoundRings.{is_about}
-use Rattle.tap_world.specs.Sound.{HandIsOwners, InThreeParts, front_name, has_in_hand, holds_name, is_receiving, is_serving}
+use Rattle.vring_turns.specs.RxLine.{has_frame}
+use Rattle.tap_world.specs.Sound.{HandIsOwners, InThreeParts, front_name, holds_name, is_receiving, is_serving}
 use Rattle.tap_world.specs.Runs.{begins, has_ended, opening, run, run_phases}
 use Rattle.tap_sound.specs.Worlds.{IsWorldOf}
 use Rattle.tap_sound.proofs.Kit.{some_same, then_some, where_some}
@@ -72,10 +73,10 @@ serves_of vhost file n (x ∷ xs) (suc i) a at is = go (is_serving vhost file n 
     go false h = h
 
 -- a turn on the file with this frame in hand
-receiving : (file : ℕ) (n : Name) (d : Doing) → is_receiving file n d ≡ true → (t : RxTurn) × (d ≡ Receives file t) × (has_in_hand t.stage ≡ true) × (holds_name n t.held ≡ true)
+receiving : (file : ℕ) (n : Name) (d : Doing) → is_receiving file n d ≡ true → (t : RxTurn) × (d ≡ Receives file t) × (has_frame t.stage ≡ true) × (holds_name n t.held ≡ true)
 receiving file n (Receives other t) e =
-    let a = both (other == file && has_in_hand t.stage) (holds_name n t.held) e in
-    let b = both (other == file) (has_in_hand t.stage) a.0 in (
+    let a = both (other == file && has_frame t.stage) (holds_name n t.held) e in
+    let b = both (other == file) (has_frame t.stage) a.0 in (
       t,
       ap (λ k. Receives k t) (⊎_elim (λ p. p.1) (λ p. absurd (true≢false (sym b.0 ∙ p.0))) (eqb_tells other file)),
       b.1,
@@ -83,9 +84,9 @@ receiving file n (Receives other t) e =
     )
 receiving file n d e = absurd (true≢false (sym e))
 
-receives : (file : ℕ) (n : Name) (t : RxTurn) → has_in_hand t.stage ≡ true → holds_name n t.held ≡ true → is_receiving file n (Receives file t) ≡ true
+receives : (file : ℕ) (n : Name) (t : RxTurn) → has_frame t.stage ≡ true → holds_name n t.held ≡ true → is_receiving file n (Receives file t) ≡ true
 receives file n t h k =
-    ap (λ (b : Bool). b && has_in_hand t.stage && holds_name n t.held) (eq-eqb file file refl) ∙ ap (λ (b : Bool). b && holds_name n t.held) h ∙ k
+    ap (λ (b : Bool). b && has_frame t.stage && holds_name n t.held) (eq-eqb file file refl) ∙ ap (λ (b : Bool). b && holds_name n t.held) h ∙ k
 
 serving : (vhost file : ℕ) (n : Name) (a : Actor) → is_receiving file n a.doing ≡ true → is_about vhost 0 (current a.script) ≡ true → is_serving vhost file n a ≡ true
 serving vhost file n a x y = ap (λ (b : Bool). b && is_about vhost 0 (current a.script)) x ∙ y
@@ -293,11 +294,11 @@ hand_is_kept s w x u e stand parts each =
 
 -- ---- runs
 
-abbrev IsHeld : World → Type 0
-IsHeld w = EachActor w (λ actor a. CanBe a) × EachFile w (λ file f. InThreeParts f.line) × EachFile w (HandIsOwners w)
+abbrev HaveActors : World → Type 0
+HaveActors w = EachActor w (λ actor a. CanBe a) × EachFile w (λ file f. InThreeParts f.line) × EachFile w (HandIsOwners w)
 
-run_held : (s : Setup) (es : List Event) (w v : World) → run s es w ≡ Some v → IsHeld w → IsHeld v
-run_held s [] w v e h = subst IsHeld (some_same w v e) h
+run_held : (s : Setup) (es : List Event) (w v : World) → run s es w ≡ Some v → HaveActors w → HaveActors v
+run_held s [] w v e h = subst HaveActors (some_same w v e) h
 run_held s (x ∷ es) w v e h =
     let t = then_some (step s w x) _ v e in
     run_held s es t.0.0 v t.2 (stands_are_kept s w x t.0 t.1 h.0, parts_are_kept s w x t.0 t.1 h.1, hand_is_kept s w x t.0 t.1 h.0 h.1 h.2)
@@ -310,7 +311,7 @@ still_serving vhost file n a doing e =
     let b = both (is_receiving file n a.doing) (is_about vhost 0 (current a.script)) e in
     true≢false (sym b.0 ∙ ap (is_receiving file n) doing)
 
-begins_held : (number : ℕ) (p : Phase) (w : World) → IsHeld w → IsStill w → IsHeld (begins number p w)
+begins_held : (number : ℕ) (p : Phase) (w : World) → HaveActors w → IsStill w → HaveActors (begins number p w)
 begins_held number p w h still = (
   λ i a at_. new_stands p (newest w) 0 p.actors i a at_,
   h.1,
@@ -323,7 +324,7 @@ begins_held number p w h still = (
 no_actor : (i : ℕ) (a : Actor) → slice_get {X = Actor} [] i ≡ Some a → ⊥
 no_actor i a h = cc (h)
 
-opening_held : (s : Setup) → IsHeld (opening s)
+opening_held : (s : Setup) → HaveActors (opening s)
 opening_held s = (
   λ i a at_. absurd (no_actor i a at_),
   λ file f at_. let d = declared s.files file f at_ in subst (λ (q : File). InThreeParts q.line) d.2 tt,
@@ -331,7 +332,7 @@ opening_held s = (
 )
 
 abbrev Rested : World → Type 0
-Rested w = IsHeld w × IsStill w
+Rested w = HaveActors w × IsStill w
 
 phases_held : (s : Setup) (number : ℕ) (ps : List Phase) (es : List (List Event)) (w v : World) → run_phases s number ps es w ≡ Some v
     → Rested w → Rested v

@@ -38,7 +38,8 @@ use Rattle.tap_world.specs.Step.{row}
 use Rattle.tap_world.specs.StepTurns as rx_turns
 use Rattle.tap_world.specs.StepTransmits as tx_turns
 use Rattle.tap_world.specs.SoundActors.{can_be}
-use Rattle.tap_world.specs.Sound.{front_name, has_in_hand}
+use Rattle.vring_turns.specs.RxLine.{has_frame}
+use Rattle.tap_world.specs.Sound.{front_name}
 use Rattle.tap_sound.proofs.Kit.{WhereSome, some_same, some_then, then_some, where_some, where_then}
 use Rattle.tap_sound.proofs.Steps.{turning}
 use Rattle.tap_sound.proofs.Follows.{at_kind}
@@ -55,19 +56,19 @@ goes_on rx.Copy = true
 goes_on st = false
 
 abbrev Held : Option FrameValue → RxState × Act → Type 0
-Held held made = (has_in_hand made.0.turn.stage ≡ true) × (made.0.turn.held ≡ held)
+Held held made = (has_frame made.0.turn.stage ≡ true) × (made.0.turn.held ≡ held)
 
-way_held : (way : After) → has_in_hand (turn.stage_of way) ≡ true
+way_held : (way : After) → has_frame (turn.stage_of way) ≡ true
 way_held after.Fetch = refl
 way_held after.Copy = refl
 way_held (after.Discard had) = refl
 way_held (after.PutBack e) = refl
 
-first_held : (o : Option After) → has_in_hand (turn.rx_after_fetch o) ≡ true
+first_held : (o : Option After) → has_frame (turn.rx_after_fetch o) ≡ true
 first_held None = refl
 first_held (Some way) = way_held way
 
-second_held : (need : ℕ) (cs : List Gathered) (o : Option After) → has_in_hand (turn.rx_after_second need cs o) ≡ true
+second_held : (need : ℕ) (cs : List Gathered) (o : Option After) → has_frame (turn.rx_after_second need cs o) ≡ true
 second_held need cs None = refl
 second_held need cs (Some way) = refl
 
@@ -104,7 +105,7 @@ next_held st s is e = go s.turn.held
     go None = tt
     go (Some frame) = with_held s.turn.stage frame s (ap goes_on is ∙ e)
 
-not_over : (st : RxStage) → has_in_hand st ≡ true → rx_turns.rx_over st ≡ None
+not_over : (st : RxStage) → has_frame st ≡ true → rx_turns.rx_over st ≡ None
 not_over (rx.Ended x) e = absurd (true≢false (sym e))
 not_over st e = refl
 
@@ -114,7 +115,7 @@ abbrev pub Frees : ℕ → OnFiles → Type 0
 Frees file o = ((worker : Option ℕ) × (f : Fate) × (o ≡ OnFile file (Leaves worker f))) ⊎ ((vhost : ℕ) × (o ≡ OnFile file (PutsBack vhost)))
 
 abbrev pub GoesHeld : ℕ → Option FrameValue → Onward → Type 0
-GoesHeld file held o = (seen : ℕ) × (u : RxTurn) × (f : Found) × (o ≡ Goes seen (Receives file u) f) × (has_in_hand u.stage ≡ true) × (u.held ≡ held)
+GoesHeld file held o = (seen : ℕ) × (u : RxTurn) × (f : Found) × (o ≡ Goes seen (Receives file u) f) × (has_frame u.stage ≡ true) × (u.held ≡ held)
 
 abbrev pub Keeps : ℕ → Option FrameValue → Effect → Type 0
 Keeps file held r = GoesHeld file held r.onward ⊎ Frees file r.files
@@ -123,7 +124,7 @@ onward_held : (seen file : ℕ) (held : Option FrameValue) (f : Found) (made : R
     → GoesHeld file held (rx_turns.rx_onward seen file made.0.turn f (rx_turns.rx_over made.0.turn.stage))
 onward_held seen file held f made h = (seen, made.0.turn, f, ap (rx_turns.rx_onward seen file made.0.turn f) (not_over made.0.turn.stage h.0), h.0, h.1)
 
-made_keeps : (st : RxStage) (seen vhost file : ℕ) (t : RxTurn) (f : Found) (made : RxState × Act) → t.stage ≡ st → has_in_hand st ≡ true → (goes_on st ≡ true → Held t.held made)
+made_keeps : (st : RxStage) (seen vhost file : ℕ) (t : RxTurn) (f : Found) (made : RxState × Act) → t.stage ≡ st → has_frame st ≡ true → (goes_on st ≡ true → Held t.held made)
     → GoesHeld file t.held (rx_turns.rx_onward seen file made.0.turn f (rx_turns.rx_over made.0.turn.stage)) ⊎ Frees file (rx_turns.rx_change vhost file t t.stage)
 unfolding goes_on
 made_keeps rx.Out seen vhost file t f made is h on = inr (inl (Some vhost, fate.Guest, ap (rx_turns.rx_change vhost file t) is))
@@ -135,7 +136,7 @@ made_keeps (rx.Publish x) seen vhost file t f made is h on = absurd (true≢fals
 made_keeps (rx.Ended x) seen vhost file t f made is h on = absurd (true≢false (sym h))
 made_keeps st seen vhost file t f made is h on = inl (onward_held seen file t.held f made (on refl))
 
-turn_keeps : (w : World) (actor n seen file : ℕ) (t : RxTurn) (c : Command) → has_in_hand t.stage ≡ true
+turn_keeps : (w : World) (actor n seen file : ℕ) (t : RxTurn) (c : Command) → has_frame t.stage ≡ true
     → WhereSome (Keeps file t.held) (tx_turns.turns w actor n seen (Receives file t) c)
 turn_keeps w actor n seen file t c h = turning (Keeps file t.held) w c (tx_turns.goes_on w actor seen (Receives file t))
     (λ vhost v m. where_then (Keeps file t.held) (turn.rx_step hand.Off (rx_turns.rx_state t v m)) _
@@ -144,14 +145,14 @@ turn_keeps w actor n seen file t c h = turning (Keeps file t.held) w c (tx_turns
 
 -- the row of the event that comes next in such a turn
 pub row_keeps : (s : Setup) (w : World) (k : EventKind) (actor seen : ℕ) (script : List Numbered) (n file : ℕ) (t : RxTurn) (c : Command) (st : RxStage) → t.stage ≡ st
-    → has_in_hand st ≡ true → is_kind k (rx_next_kind w file st) ≡ true
+    → has_frame st ≡ true → is_kind k (rx_next_kind w file st) ≡ true
     → WhereSome (Keeps file t.held) (row s w k actor (record { seen = seen; script = script; doing = Receives file t }) n c)
-row_keeps s w k actor seen script n file t c st is h e = go st h e (turn_keeps w actor n seen file t c (ap has_in_hand is ∙ h))
+row_keeps s w k actor seen script n file t c st is h e = go st h e (turn_keeps w actor n seen file t c (ap has_frame is ∙ h))
   where
     P : EventKind → Type 0
     P j = WhereSome (Keeps file t.held) (row s w j actor (record { seen = seen; script = script; doing = Receives file t }) n c)
 
-    go : (st : RxStage) → has_in_hand st ≡ true → is_kind k (rx_next_kind w file st) ≡ true
+    go : (st : RxStage) → has_frame st ≡ true → is_kind k (rx_next_kind w file st) ≡ true
         → WhereSome (Keeps file t.held) (tx_turns.turns w actor n seen (Receives file t) c) → P k
     go rx.Begin h e q = absurd (true≢false (sym h))
     go rx.Hand h e q = absurd (true≢false (sym h))

@@ -95,7 +95,7 @@ pub data Shape (s : Setup) (w : World) (me seen : ℕ) (d : Doing) (c : Command)
       → r.writer ≡ w.writer → Gives w vhost file t told d c r.onward → Shape s w me seen d c r
   Trims : (file n m k : ℕ) (f : Found) → d ≡ Shrinks file n m → on_file file Cuts (Goes seen (Shrinks file n k) f) w ≡ r → Shape s w me seen d c r
   Approves : (x : Op) → d ≡ Begun → op_of s c ≡ Some x → w.writer ≡ None → refuse (table s w) x ≡ None
-      → tables.approved w me (tables.course (table s w) x) None ≡ r → Shape s w me seen d c r
+      → tables.decided w me (tables.course (table s w) x) None ≡ r → Shape s w me seen d c r
   BackApproves : (vhost ring : ℕ) (file : Option ℕ) (v : Vhost) → d ≡ Begun → c ≡ command.Backend vhost ring file → at w.vhosts vhost ≡ Some v
       → w.writer ≡ None → (not (is_ring ring) || is_none (turn_of ring v)) ≡ true → back.back_refusal (table s w) vhost ring file ≡ None
       → back.back_seen w me vhost ring v None ≡ r → Shape s w me seen d c r
@@ -118,7 +118,7 @@ pub data Shape (s : Setup) (w : World) (me seen : ℕ) (d : Doing) (c : Command)
   BackDrives : (refusal : Option TapText) (vhost ring : ℕ) (file : Option ℕ) (v : Vhost) (g : Guest) → d ≡ Backs refusal
       → c ≡ command.Backend vhost ring file → at w.vhosts vhost ≡ Some v → at w.guests v.guest ≡ Some g → is_free_for me ring v ≡ true
       → back.back_call s w me seen refusal vhost ring file v g.memory ≡ r → Shape s w me seen d c r
-  Calling : (vhost : ℕ) (v : Vhost) (g : Guest) (x : control.Call) → d ≡ Begun → control.vhost_of c ≡ Some vhost → at w.vhosts vhost ≡ Some v
+  Calling : (vhost : ℕ) (v : Vhost) (g : Guest) (x : control.Call) → d ≡ Begun → control.driven_vhost c ≡ Some vhost → at w.vhosts vhost ≡ Some v
       → at w.guests v.guest ≡ Some g → control.call_of c v g.memory ≡ Some x → control.may_call me c v ≡ true
       → control.call_effect w seen vhost v.guest x ≡ r → Shape s w me seen d c r
   Touching : (guest : ℕ) (g : Guest) (m : Contents) (step : Option Kind) (v : ℕ) (y : Answer) → at w.guests guest ≡ Some g

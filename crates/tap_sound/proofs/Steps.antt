@@ -108,7 +108,7 @@ hand_follows s w actor seen file t c is =
     (where_some (λ (x : RxState × Act). RxGoes t.stage event.Hand x.0.turn.stage) _ made (rx_got frame (rx_turns.rx_state t v m) t.stage refl is) e))))))
 
 pub none_follows : (w : World) (actor seen file : ℕ) (t : RxTurn) (c : Command) → t.stage ≡ rx.Hand
-    → AllFollow (Receives file t) c event.NotReady (tx_turns.finds_nothing w actor seen (Receives file t) c)
+    → AllFollow (Receives file t) c event.NotReady (tx_turns.turn_finds_none w actor seen (Receives file t) c)
 none_follows w actor seen file t c is =
     let P : Effect → Type 0 = Follows (Receives file t) c event.NotReady in
     turning P w c _ (λ vhost v m. where_then P (at w.files file) _ (λ f e1. where_then P (rx_step (hand.NotReady _) (rx_turns.rx_state t v m)) _

@@ -1,8 +1,9 @@
 -- This project's own: what a scenario lays down for good.
-use Rattle.std.specs.Prelude.{ℕ, ◌+◌, ◌==◌, if◌then◌else◌, List, [], ◌∷◌, ◌++◌, map, filter, fold, replicate, flat_map, slice_get, slice_set, take, Option, Some, None, unwrap_or, option_map}
+use Rattle.std.specs.Prelude.{ℕ, ◌+◌, ◌==◌, if◌then◌else◌, List, [], ◌∷◌, ◌++◌, map, filter, fold, replicate, flat_map, length, min, slice_get, slice_set, take, Option, Some, None, unwrap_or, option_map}
 use Rattle.std.specs.Option.{option_map_or}
 use Rattle.guest_mem.specs.declared.region.Region.{Region}
 use Rattle.tap_frame.specs.declared.name.Name.{Name}
+use Rattle.tap_frame.specs.Frame.{FrameValue}
 use Rattle.tap_steer.specs.declared.operation.Op.{Op}
 use Rattle.tap_steer.specs.declared.operation.Op.TheVariants as op
 use Rattle.tap_steer.specs.Table.{Table, first}
@@ -114,9 +115,19 @@ abbrev pub sent_by : Command → Option FrameText
 sent_by (command.Send name hdr bytes) = Some (frame_in (sent_front hdr) (sent_bytes hdr bytes))
 sent_by other = None
 
--- the frame of a name, as it was sent, with so many of its bytes kept
-abbrev pub frame_of : Setup → Name → ℕ → Option FrameText
-frame_of s name len = do
+-- the frame of a name, as it was sent
+abbrev pub frame_sent : Setup → Name → Option FrameText
+frame_sent s name = do
   l ← line_of s name.turn
-  f ← sent_by l.command
-  Some (record f { ether = take len f.ether })
+  sent_by l.command
+
+-- what a read gets of it: so many of its bytes
+abbrev pub frame_of : Setup → Name → ℕ → Option FrameText
+frame_of s name len = option_map (λ (f : FrameText). record f { ether = take len f.ether }) (frame_sent s name)
+
+-- what a worker gets: all bytes that it was sent with, and the mark behind those that are kept
+abbrev pub kept_frame : Setup → Name → ℕ → Option FrameValue
+kept_frame s name len =
+    option_map
+    (λ (f : FrameText). record { name = name; hdr = f.hdr; made = f.ether; mark = min len (length f.ether) })
+    (frame_sent s name)

@@ -8,8 +8,7 @@ use Rattle.tap_frame.specs.declared.name.Name.{Name}
 use Rattle.tap_frame.specs.Frame.{FrameValue}
 use Rattle.tap_ledger.specs.declared.fate.Fate.TheVariants as fate
 use Rattle.tap_steer.specs.Table.{Table, file_at}
-use Rattle.vring_turns.specs.declared.stage.RxStage.{RxStage}
-use Rattle.vring_turns.specs.declared.stage.RxStage.TheVariants as rx
+use Rattle.vring_turns.specs.RxLine.{has_frame}
 use Rattle.tap_world.specs.Then.{◌>>=◌}
 use Rattle.tap_world.specs.Each.{EachActor, EachFile, EachVhost}
 use Rattle.tap_world.specs.Setup.{Setup}
@@ -17,7 +16,7 @@ use Rattle.tap_world.specs.Line.{Entry, File, Standing, claimed, count, first_th
 use Rattle.tap_world.specs.declared.line.Standing.TheVariants.{Batched, Claimed, Cut, Out, Ready}
 use Rattle.tap_world.specs.World.{Actor, Doing, World, current, newest, table}
 use Rattle.tap_world.specs.Stands.{same_name}
-use Rattle.tap_world.specs.World.Doing.{Backed, Backs, Changes, Disowned, Opened, Opens, Owns, Placed, Purges, Receives, Released, Resizes, Shrinks, Unbacked, Withdrawn, Withdraws}
+use Rattle.tap_world.specs.World.Doing.{Backed, Backs, Begun, Changes, Disowned, Given, Hosts, Learns, Opened, Opens, Owns, Placed, Purges, Reads, Receives, Released, Resizes, Routed, Shrinks, Teaches, Transmits, Unbacked, Withdrawn, Withdraws}
 use Rattle.tap_world.specs.SoundActors.{CanBe}
 use Rattle.tap_world.specs.SoundNames.{NamesStandOnce}
 use Rattle.tap_world.specs.SoundRings.{HaveRings, IsActor, TurnsAreHeld, is_about}
@@ -106,20 +105,12 @@ IsEmptyWhenShut w file f =
 
 -- ---- 7: a frame in hand
 
--- a receive turn has a frame in hand: from the step that takes it until it is out or put back
-abbrev pub has_in_hand : RxStage → Bool
-has_in_hand rx.Begin = false
-has_in_hand rx.Hand = false
-has_in_hand (rx.Publish way) = false
-has_in_hand (rx.Ended way) = false
-has_in_hand stage = true
-
 -- the frame in hand has this name
 abbrev pub holds_name : Name → Option FrameValue → Bool
 holds_name n held = option_map_or (λ (x : FrameValue). same_name x.name n) held false
 
 abbrev pub is_receiving : ℕ → Name → Doing → Bool
-is_receiving file n (Receives other t) = other == file && has_in_hand t.stage && holds_name n t.held
+is_receiving file n (Receives other t) = other == file && has_frame t.stage && holds_name n t.held
 is_receiving file n doing = false
 
 -- an actor is at a worker's receive turn on the file, with this frame in hand
@@ -165,7 +156,17 @@ holds (Owns file version) = true
 holds (Unbacked file) = true
 holds (Disowned file) = true
 holds (Released file) = true
-holds doing = false
+holds Begun = false
+holds (Routed file epoch len) = false
+holds (Placed file place epoch len) = false
+holds (Reads file room front) = false
+holds (Hosts file ether learns) = false
+holds (Learns file ether) = false
+holds (Backs (Some refusal)) = false
+holds (Receives file t) = false
+holds (Transmits file t chains) = false
+holds (Given file t chains frame) = false
+holds (Teaches file t chains frame) = false
 
 -- The writer is held exactly by the command under way that holds it.
 abbrev pub WriterIsHeld : World → ℕ → Actor → Type 0

@@ -1,5 +1,5 @@
--- This project's own: the events of the queue table, Look and Publish. Each row is what the event changes, and none
--- where its condition doesn't hold.
+-- This project's own: the events Look and Publish of control commands, sends, reads and writes; those of backends and of
+-- turns stand with theirs. Each row is what the event changes, and none where its condition doesn't hold.
 use Rattle.std.specs.Prelude.{ℕ, ◌+◌, ◌&&◌, nat_lt, Bool, true, false, if◌then◌else◌, List, [], ◌∷◌, length, Option, Some, None, is_none}
 use Rattle.std.specs.Option.{option_map_or}
 use Rattle.tap_flow_key.specs.Fnv.{fnv_of}
@@ -50,13 +50,13 @@ course t (op.Resize file capacity) = Resizes file capacity
 course t other = Changes
 
 -- it ends with the table's refusal, or holds the writer from now on
-abbrev pub approved : World → ℕ → Doing → Option TapErr → Effect
-approved w actor doing (Some refusal) = only (Ends (newest w) (answer.Tap (tap_text refusal))) w
-approved w actor doing None =
+abbrev pub decided : World → ℕ → Doing → Option TapErr → Effect
+decided w actor doing (Some refusal) = only (Ends (newest w) (answer.Tap (tap_text refusal))) w
+decided w actor doing None =
     record (only (Goes (newest w) doing (found.Version (newest w))) w) { writer = Some actor }
 
 abbrev pub looks_to_change : Table → World → ℕ → Op → Option Effect
-looks_to_change t w actor x = only_if (is_none w.writer) (approved w actor (course t x) (refuse t x))
+looks_to_change t w actor x = only_if (is_none w.writer) (decided w actor (course t x) (refuse t x))
 
 -- ---- Look, of a send, a read and a write
 

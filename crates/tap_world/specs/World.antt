@@ -4,7 +4,6 @@ use Rattle.std.specs.Option.{option_map_or}
 use Rattle.tap_frame.specs.declared.name.Name.{Name}
 use Rattle.tap_steer.specs.Table.{Table}
 use Rattle.tap_steer.specs.After.{after_all}
-use Rattle.tap_frame.specs.Frame.{FrameValue}
 use Rattle.tap_trace.specs.declared.causes.TapText.{TapText}
 use Rattle.tap_trace.specs.declared.turn.ChainText.{ChainText}
 use Rattle.vring_turns.specs.RxTurn.{RxTurn}
@@ -16,6 +15,11 @@ use Rattle.tap_world.specs.Guests.{Guest, Vhost}
 
 pub use Rattle.tap_world.specs.declared.told.Published.{Published}
 pub use Rattle.tap_world.specs.declared.told.Said.{Said}
+
+-- a frame that the host has: its name, and the hash of its flow
+pub record HostFrame : Type 0 where
+  pub name : Name
+  pub flow : ℕ
 
 -- How far a command has come, with the file that it is about.
 pub data Doing : Type 0 where
@@ -41,8 +45,8 @@ pub data Doing : Type 0 where
   Released : ℕ → Doing  -- it is unset in a transmit ring, to publish
   Receives : ℕ → RxTurn → Doing  -- a receive turn on a file
   Transmits : ℕ → TxTurn → List ChainText → Doing  -- a transmit turn on a file, and what became of its chains
-  Given : ℕ → TxTurn → List ChainText → FrameValue → Doing  -- its frame is with the host, to look
-  Teaches : ℕ → TxTurn → List ChainText → FrameValue → Doing  -- the frame's flow is to be learnt
+  Given : ℕ → TxTurn → List ChainText → HostFrame → Doing  -- its frame is with the host, to look
+  Teaches : ℕ → TxTurn → List ChainText → HostFrame → Doing  -- the frame's flow is to be learnt
 
 -- an actor: the newest version that it has seen, its commands that haven't ended, and how far the first of them has
 -- come
