@@ -294,11 +294,11 @@ hand_is_kept s w x u e stand parts each =
 
 -- ---- runs
 
-abbrev HaveActors : World → Type 0
-HaveActors w = EachActor w (λ actor a. CanBe a) × EachFile w (λ file f. InThreeParts f.line) × EachFile w (HandIsOwners w)
+abbrev IsHeld : World → Type 0
+IsHeld w = EachActor w (λ actor a. CanBe a) × EachFile w (λ file f. InThreeParts f.line) × EachFile w (HandIsOwners w)
 
-run_held : (s : Setup) (es : List Event) (w v : World) → run s es w ≡ Some v → HaveActors w → HaveActors v
-run_held s [] w v e h = subst HaveActors (some_same w v e) h
+run_held : (s : Setup) (es : List Event) (w v : World) → run s es w ≡ Some v → IsHeld w → IsHeld v
+run_held s [] w v e h = subst IsHeld (some_same w v e) h
 run_held s (x ∷ es) w v e h =
     let t = then_some (step s w x) _ v e in
     run_held s es t.0.0 v t.2 (stands_are_kept s w x t.0 t.1 h.0, parts_are_kept s w x t.0 t.1 h.1, hand_is_kept s w x t.0 t.1 h.0 h.1 h.2)
@@ -311,7 +311,7 @@ still_serving vhost file n a doing e =
     let b = both (is_receiving file n a.doing) (is_about vhost 0 (current a.script)) e in
     true≢false (sym b.0 ∙ ap (is_receiving file n) doing)
 
-begins_held : (number : ℕ) (p : Phase) (w : World) → HaveActors w → IsStill w → HaveActors (begins number p w)
+begins_held : (number : ℕ) (p : Phase) (w : World) → IsHeld w → IsStill w → IsHeld (begins number p w)
 begins_held number p w h still = (
   λ i a at_. new_stands p (newest w) 0 p.actors i a at_,
   h.1,
@@ -324,7 +324,7 @@ begins_held number p w h still = (
 no_actor : (i : ℕ) (a : Actor) → slice_get {X = Actor} [] i ≡ Some a → ⊥
 no_actor i a h = cc (h)
 
-opening_held : (s : Setup) → HaveActors (opening s)
+opening_held : (s : Setup) → IsHeld (opening s)
 opening_held s = (
   λ i a at_. absurd (no_actor i a at_),
   λ file f at_. let d = declared s.files file f at_ in subst (λ (q : File). InThreeParts q.line) d.2 tt,
@@ -332,7 +332,7 @@ opening_held s = (
 )
 
 abbrev Rested : World → Type 0
-Rested w = HaveActors w × IsStill w
+Rested w = IsHeld w × IsStill w
 
 phases_held : (s : Setup) (number : ℕ) (ps : List Phase) (es : List (List Event)) (w v : World) → run_phases s number ps es w ≡ Some v
     → Rested w → Rested v
