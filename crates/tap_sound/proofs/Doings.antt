@@ -42,7 +42,7 @@ use Rattle.tap_world.specs.StepBackend as back
 use Rattle.tap_world.specs.StepRing as ring
 use Rattle.tap_world.specs.StepTable as tables
 use Rattle.tap_world.specs.StepTransmits as tx_turns
-use Rattle.tap_sound.proofs.Kit.{either, where_only, where_then}
+use Rattle.tap_sound.proofs.Kit.{either, where_only, where_then, where_if}
 use Rattle.tap_sound.proofs.Left.{left_of}
 use Rattle.tap_sound.proofs.Rows.{rx_kind, tx_kind}
 use Rattle.tap_sound.proofs.Steps.{Gives, give_follows, hand_follows, held, none_follows, or_else, own, owning, publication, rx_follows, turning, tx_follows}
@@ -56,7 +56,7 @@ sets : (w : World) (actor seen vhost r file : ℕ) (x : Option TapText) (v : Vho
 sets w actor seen vhost r file x v m (Some a) = (refl, inl refl)
 sets w actor seen vhost r file x v m None = λ es h. (refl, inr h)
 
-unsets : (w : World) (actor seen vhost r : ℕ) (x : Option TapText) (v : Vhost) (m : Contents) (a : Option VhostErr) (file : Option ℕ)
+unsets : (w : World) (actor seen vhost r : ℕ) (x : Option TapText) (v : Vhost) (m : Contents) (a : Option Answer) (file : Option ℕ)
     → Follows (Backs x) (command.Backend vhost r None) event.Drive (back.unsets_back w actor seen vhost r v m a file)
 unsets w actor seen vhost r x v m (Some a) file = (refl, inl refl)
 unsets w actor seen vhost r x v m None None = (refl, inl refl)
@@ -71,12 +71,12 @@ backs_follow : (s : Setup) (w : World) (actor seen : ℕ) (x : Option TapText) (
     → AllFollow (Backs x) c event.Drive (back.backs s w actor seen (Backs x) c)
 backs_follow s w actor seen x (command.Backend vhost r None) =
     let P : Effect → Type 0 = Follows (Backs x) (command.Backend vhost r None) event.Drive in
-    where_then P (at w.vhosts vhost) _ (λ v e1. where_then P (at w.guests v.guest) _ (λ g e2. where_only P _ _
-    (λ b. unsets w actor seen vhost r x v g.memory (number_refusal r) (ring_at r v.settings).file)))
+    where_then P (at w.vhosts vhost) _ (λ v e1. where_then P (at w.guests v.guest) _ (λ g e2. where_if P _ _ (λ b. where_then P (back.refused_by (number_refusal r)) _
+    (λ told e3. unsets w actor seen vhost r x v g.memory told (ring_at r v.settings).file))))
 backs_follow s w actor seen x (command.Backend vhost r (Some file)) =
     let P : Effect → Type 0 = Follows (Backs x) (command.Backend vhost r (Some file)) event.Drive in
-    where_then P (at w.vhosts vhost) _ (λ v e1. where_then P (at w.guests v.guest) _ (λ g e2. where_only P _ _
-    (λ b. sets w actor seen vhost r file x v g.memory _)))
+    where_then P (at w.vhosts vhost) _ (λ v e1. where_then P (at w.guests v.guest) _ (λ g e2. where_if P _ _ (λ b. where_then P (back.back_answer _ x _) _
+    (λ told e3. sets w actor seen vhost r file x v g.memory told))))
 backs_follow s w actor seen x c = tt
 
 backed_follows : (w : World) (file : ℕ) (c : Command) → AllFollow (Backed file) c event.Publish (back.publishes_back w (Backed file) c)
@@ -262,5 +262,5 @@ row_follows s w actor seen script n (Teaches file t told f) c k e =
     at_kind (RowFollows s w actor seen script n (Teaches file t told f) c) k event.Publish e
     (publication (Follows (Teaches file t told f) c event.Publish) s w actor (Teaches file t told f) c tt
     (where_only (Follows (Teaches file t told f) c event.Publish) (is_none w.writer)
-    (record (only (Goes (newest w + 1) (Transmits file t told) (found.Version (newest w + 1))) w) { ops = op.Learn file (hash f.made) ∷ [] }) (λ b es h. (refl, h)))
+    (record (only (Goes (newest w + 1) (Transmits file t told) (found.Version (newest w + 1))) w) { ops = op.Learn file f.flow ∷ [] }) (λ b es h. (refl, h)))
     (own (Follows (Teaches file t told f) c event.Publish) s w actor (Teaches file t told f) c (λ x. tt)))

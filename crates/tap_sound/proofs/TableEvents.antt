@@ -100,13 +100,13 @@ fits_between s w x u t can (Calling vhost v g y is of a b call may eq) view_ h =
     free_event s w x u t NoFile view_ (ap holds is) (ap holds (doing_on s w x u t _ eq t.actor.doing)) (ops_on s w x u t _ eq) (on_files s w x u t _ eq) tt h
 fits_between s w x u t can (Touching guest g m step v y at_ same is o f gs vs wr on) view_ h =
     free_event s w x u t NoFile view_ (ap holds is) (ap (λ (q : Onward). holds (doing_after q t.actor.doing)) on) o f tt h
-fits_between s w x u t can (RxTurning vhost file q v g hd made files f cis a b way step leaves eq) view_ h =
+fits_between s w x u t can (RxTurning vhost file q v g hd made files f over cis a b way step leaves told_ eq) view_ h =
     free_event s w x u t files view_ (rx_free x.actor t.actor.doing file q v way)
-    (ap holds (doing_on s w x u t _ eq t.actor.doing) ∙ rx_holds t.actor.seen file made.0.turn f t.actor.doing (rx_turns.rx_over made.0.turn.stage))
+    (ap holds (doing_on s w x u t _ eq t.actor.doing) ∙ rx_holds t.actor.seen file made.0.turn f t.actor.doing over)
     (ops_on s w x u t _ eq) (on_files s w x u t _ eq) leaves h
-fits_between s w x u t can (TxTurning vhost file q told v g made cis a b way step eq) view_ h =
+fits_between s w x u t can (TxTurning vhost file q told v g made st over cis a b way step end_ eq) view_ h =
     free_event s w x u t NoFile view_ (tx_free t.actor.doing file q told v way)
-    (ap holds (doing_on s w x u t _ eq t.actor.doing) ∙ tx_holds t.actor.seen file made.0.turn _ _ t.actor.doing (tx_turns.tx_over made.0.turn.stage))
+    (ap holds (doing_on s w x u t _ eq t.actor.doing) ∙ tx_holds t.actor.seen file made.0.turn _ _ t.actor.doing over)
     (ops_on s w x u t _ eq) (on_files s w x u t _ eq) tt h
 
 -- at the end of a purge its file has what the table has

@@ -150,7 +150,7 @@ publishes s w z actor d c = own (IsTame w true z) s w actor d c (λ x. own_publi
 
 teaches : (w : World) (z : Bool) (d : Doing) → AllTame w true z (tx_turns.teaches w d)
 teaches w z (Teaches file t told f) = where_only (IsTame w true z) (is_none w.writer)
-    (record (only (Goes (newest w + 1) (Transmits file t told) (found.Version (newest w + 1))) w) { ops = op.Learn file (hash f.made) ∷ [] })
+    (record (only (Goes (newest w + 1) (Transmits file t told) (found.Version (newest w + 1))) w) { ops = op.Learn file f.flow ∷ [] })
     (λ b. (λ e. absurd (true≢false e), tt, λ e. tt, one_more w))
 teaches w z d = tt
 

@@ -77,7 +77,7 @@ pub phases_end_so : (s : Scenario) (ended : ℕ) (before w : World) → IsAfter 
 phases_end_so s ended before w a h e = record {
   events = a.events ++ h.so_far ∷ [];
   is = subst (λ (ps : List Phase). run_phases (setup_of s) 0 ps (a.events ++ h.so_far ∷ []) (opening (setup_of s)) ≡ Some w)
-      (sym (take_next ended s.phases h.phase h.is_next) ∙ ap (λ (k : ℕ). take k s.phases) (omega arith))
+      (let one : suc ended ≡ ended + 1 = omega arith in sym (take_next ended s.phases h.phase h.is_next) ∙ ap (λ (k : ℕ). take k s.phases) one)
       (phases_more (setup_of s) 0 (take ended s.phases) h.phase a.events h.so_far (opening (setup_of s)) before w a.is
       (subst (λ (k : ℕ). run (setup_of s) h.so_far (begins k h.phase before) ≡ Some w) (let l = take_length ended s.phases h.phase h.is_next in omega (arith, l)) h.is) e);
 }
