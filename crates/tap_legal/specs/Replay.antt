@@ -23,7 +23,7 @@ use Rattle.tap_trace.specs.declared.kind.Kind.{Kind}
 use Rattle.tap_trace.specs.declared.kind.Kind.TheVariants as kind
 use Rattle.tap_trace.specs.declared.turn.ChainText.{ChainText}
 use Rattle.tap_trace.specs.declared.turn.TurnText.TheVariants as text
-use Rattle.tap_world.specs.Then.{◌>>=◌, only_if}
+use Rattle.tap_ground.specs.Options.{◌>>=◌, only_if}
 use Rattle.tap_world.specs.ByNumber.{at, with_at}
 use Rattle.tap_world.specs.Guests.{Vhost, is_ring, turn_of}
 use Rattle.tap_world.specs.Setup.{frame_of}

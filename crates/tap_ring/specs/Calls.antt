@@ -212,7 +212,7 @@ pub record IsShutNow (claimed : ℕ) (v w : View) : Type 0 where
   pub epoch : w.gate.epoch ≡ v.gate.epoch
   pub opened : w.opened ≡ v.opened
   pub resizes : w.gate.resizes ≡ v.gate.resizes
-  pub resized : w.resized ≡ v.resized
+  pub resized : (w.resized ≡ v.resized) × (w.resized_from ≡ v.resized_from)
 
 -- the gate is open at the next epoch; no place was given out since the shut
 pub record IsReopened (epoch : ℕ) (v w : View) : Type 0 where
@@ -223,7 +223,7 @@ pub record IsReopened (epoch : ℕ) (v w : View) : Type 0 where
   pub claimed : w.gate.claimed ≡ v.gate.claimed
   pub opened : w.opened ≡ v.opened ++ v.gate.claimed ∷ []
   pub resizes : w.gate.resizes ≡ v.gate.resizes
-  pub resized : w.resized ≡ v.resized
+  pub resized : (w.resized ≡ v.resized) × (w.resized_from ≡ v.resized_from)
 
 -- why the gate stays shut: the two counts that the tokens keep differ; or else there is no further epoch
 abbrev pub StaysShut : View → ℕ → Reopen → Type 0
@@ -238,7 +238,7 @@ pub record IsResized (capacity claimed : ℕ) (v w : View) : Type 0 where
   pub later : SawMore v w
   pub capacity_is : w.gate.capacity ≡ capacity
   pub resizes : w.gate.resizes ≡ v.gate.resizes + 1
-  pub resized : w.resized ≡ v.resized ++ capacity ∷ []
+  pub resized : (w.resized ≡ v.resized ++ capacity ∷ []) × (w.resized_from ≡ claimed)
   pub claimed_is : claimed ≡ w.gate.claimed
   pub still : v.gate.shut ≡ true → w.gate.claimed ≡ v.gate.claimed
   pub shut : w.gate.shut ≡ v.gate.shut

@@ -1,5 +1,5 @@
 -- This project's own: what a ring is at one step, and how it goes on.
-use Rattle.std.specs.Prelude.{◌≡◌, ℕ, ◌+◌, ◌^◌, ◌<◌, ◌≤◌, ◌≢◌, ◌⊎◌, true, false, List, slice_index}
+use Rattle.std.specs.Prelude.{◌≡◌, ℕ, [], ◌∷◌, ◌+◌, ◌^◌, ◌<◌, ◌≤◌, ◌≢◌, ◌⊎◌, true, false, List, slice_index}
 use Rattle.tap_ring.specs.declared.rule.Moment.{Moment}
 use Rattle.tap_ring.specs.GateWord.{gate_word}
 
@@ -43,6 +43,10 @@ IsFull m = m.freed + m.capacity ≤ m.claimed
 abbrev pub HasRoom : Moment → Type 0
 HasRoom m = m.claimed < m.freed + m.capacity
 
+-- No more places are claimed and not free again than the capacity allows; or else none was claimed since the last resize.
+abbrev pub KeepsRoom : ℕ → ℕ → ℕ → ℕ → Type 0
+KeepsRoom claimed freed capacity resized_from = (claimed ≤ freed + capacity) ⊎ (claimed ≡ resized_from)
+
 -- every place that was given out is free again
 abbrev pub IsDrained : Moment → Type 0
 IsDrained m = m.claimed ≡ m.freed
@@ -61,3 +65,17 @@ pub record IsPast (words : List ℕ) (now m : Moment) : Type 0 where
   pub epoch : m.epoch ≤ now.epoch
   pub resizes : m.resizes ≤ now.resizes
   pub capacity : capacity_at words m.resizes ≡ m.capacity
+  pub shut : m.epoch ≡ now.epoch → m.shut ≡ true → now.shut ≡ true
+
+-- each of these moments lies behind
+abbrev pub EachPast : List ℕ → Moment → List Moment → Type 0
+EachPast words now [] = Unit {0}
+EachPast words now (m ∷ ms) = IsPast words now m × EachPast words now ms
+
+-- what a token saw lies before the ring's end: no count was above it, and a gate that it met shut is shut still or was reopened
+pub record IsBefore (claims_end freed_end : ℕ) (last : Moment) (m : Moment) : Type 0 where
+  pub claimed : m.claimed ≤ claims_end
+  pub freed : m.freed ≤ freed_end
+  pub epoch : m.epoch ≤ last.epoch
+  pub resizes : m.resizes ≤ last.resizes
+  pub shut : m.epoch ≡ last.epoch → m.shut ≡ true → last.shut ≡ true

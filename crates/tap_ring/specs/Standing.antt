@@ -11,7 +11,7 @@ use Rattle.tap_ring.specs.declared.rule.Moment.{Moment}
 use Rattle.tap_ring.specs.declared.rule.Claim.{Claim}
 use Rattle.tap_ring.specs.declared.rule.View.{View}
 use Rattle.tap_ring.specs.declared.rule.Plan.{Plan}
-use Rattle.tap_ring.specs.Moments.{Fits, IsPast, gate_of, capacity_at}
+use Rattle.tap_ring.specs.Moments.{Fits, KeepsRoom, IsPast, EachPast, gate_of, capacity_at}
 use Rattle.tap_ring.specs.Turns.{turns_to, IsGiven, EachGiven}
 
 -- a ring's words, slots and views as plain data
@@ -33,6 +33,8 @@ pub record Standing : Type 0 where
   -- the claim count at each reopening, and the capacity of each resize
   pub opened : List ℕ
   pub resized : List ℕ
+  -- the claim count at the last resize
+  pub resized_from : ℕ
   -- the seats of the consumer and of the keeper
   pub consumer : ℕ
   pub keeper : ℕ
@@ -126,7 +128,7 @@ module _ (plan : Plan) (s : RingState) (h : Standing) (j : ℕ) (v : View) where
 
   -- the keeper knows each reopening and each resize
   abbrev pub KnowsTurns : Type 0
-  KnowsTurns = (v.opened ≡ h.opened) × (v.resized ≡ h.resized)
+  KnowsTurns = (v.opened ≡ h.opened) × (v.resized ≡ h.resized) × (v.resized_from ≡ h.resized_from)
 
   -- what a seat knows
   pub record Knows : Type 0 where
@@ -138,6 +140,7 @@ module _ (plan : Plan) (s : RingState) (h : Standing) (j : ℕ) (v : View) where
     pub gate : v.spent ≡ false → IsPast s.words h.now v.gate
     pub asked : v.spent ≡ false → IsPast s.words h.now v.asked
     pub room : v.spent ≡ false → IsPast s.words h.now v.room
+    pub met : EachPast s.words h.now v.met
 
 -- ---- reopenings and resizes
 
@@ -185,6 +188,7 @@ pub record Ring (plan : Plan) (s : RingState) : Type 0 where
   pub behind : h.lifted ≤ h.now.claimed
   pub ahead : h.now.claimed ≤ h.now.freed + slots_of s
   pub long : h.now.claimed ≡ plan.first + length h.log
+  pub room : KeepsRoom h.now.claimed h.now.freed h.now.capacity h.resized_from
   -- the places from the freed count on, as many as there are slots
   pub places : (p : ℕ) → h.now.freed ≤ p → p < h.now.freed + slots_of s → IsPlace plan.first s h p
   -- reopenings and resizes
@@ -216,7 +220,9 @@ new_producers plan parts = record {
   keeps = false;
   opened = [];
   resized = [];
+  resized_from = plan.first;
   stored = None;
+  met = [];
   spent = false;
   gate = opening_moment plan.first plan.capacity;
   gate_loads = 0;

@@ -133,6 +133,7 @@ with_turn m v = record (seen_gate (reopened_at m) v) { opened = v.opened ++ m.cl
 abbrev pub with_resize : ℕ → Moment → View → View
 with_resize capacity m v = record (seen_gate (resized_at capacity m) v) {
   resized = v.resized ++ capacity ∷ [];
+  resized_from = m.claimed;
   stored = None;
 }
 
@@ -179,6 +180,7 @@ with_producer v w = record v {
   parts = v.parts + w.parts;
   mine = v.mine ++ w.mine;
   loaded = v.loaded ++ w.loaded;
+  met = v.met ++ w.gate ∷ w.asked ∷ w.room ∷ w.met;
 }
 
 -- the keeper's part comes to another seat
@@ -187,6 +189,7 @@ with_keeper v w = record v {
   keeps = true;
   opened = w.opened;
   resized = w.resized;
+  resized_from = w.resized_from;
   stored = None;
   gate = w.gate;
 }

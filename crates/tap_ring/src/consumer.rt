@@ -71,9 +71,17 @@ impl Consumer {
         }
     }
 
-    // The freed count.
-    pub(crate) fn freed(&self) -> u64
-        ensures { result ≡ self.now.view.freed }
+    /// The front place: the first that it hasn't lifted.
+    pub fn front(&self) -> u64
+        ensures { result ≡ self.now.view.next }
+    {
+        self.front
+    }
+
+    /// The freed count: the first place that isn't free again. It is at most the front place.
+    pub fn freed(&self) -> u64
+        ensures count { result ≡ self.now.view.freed }
+        ensures behind { result ≤ self.now.view.next }
     {
         self.freed
     }

@@ -18,6 +18,7 @@ use std::marker::Model;
 #[derive(Drop)]
 pub struct Keeper {
     pub(crate) seat: RingSeat,
+    pub(crate) shut: bool,
     pub(crate) epoch: u16,
     pub(crate) resizes: u8,
     pub(crate) claimed: u64,
@@ -31,8 +32,9 @@ impl Model for Keeper {
 
     ghost view = { λ k. token k.seat.table_id k.seat.me.0 };
 
-    ghost invariant = { λ k. IsKeeper k.seat.me.0 × (k.seat.me.1 ≡ []) × (k.epoch ≡ k.seat.me.0.gate.epoch)
-        × (k.resizes ≡ k.seat.me.0.gate.resizes) × (k.claimed ≡ k.seat.me.0.gate.claimed) };
+    ghost invariant = { λ k. IsKeeper k.seat.me.0 × (k.seat.me.1 ≡ []) × (k.shut ≡ k.seat.me.0.gate.shut)
+        × (k.epoch ≡ k.seat.me.0.gate.epoch) × (k.resizes ≡ k.seat.me.0.gate.resizes)
+        × (k.claimed ≡ k.seat.me.0.gate.claimed) };
 }
 
 /// The greatest number of resizes.
@@ -54,16 +56,47 @@ pub struct ResizesSpent;
 impl Keeper {
     // The keeper of a ring that has just been made.
     pub(crate) fn new(seat: RingSeat, first: u64) -> Keeper
-        requires { IsKeeper seat.me.0 × (seat.me.1 ≡ []) × (seat.me.0.gate.epoch ≡ 0)
-            × (seat.me.0.gate.resizes ≡ 0) × (seat.me.0.gate.claimed ≡ first) }
+        requires { IsKeeper seat.me.0 × (seat.me.1 ≡ []) × (seat.me.0.gate.shut ≡ true)
+            × (seat.me.0.gate.epoch ≡ 0) × (seat.me.0.gate.resizes ≡ 0) × (seat.me.0.gate.claimed ≡ first) }
         ensures { result ≡ token seat.table_id seat.me.0 }
     {
         Keeper {
             seat,
+            shut: true,
             epoch: 0,
             resizes: 0,
             claimed: first,
         }
+    }
+
+    /// Whether the gate is shut.
+    pub fn is_shut(&self) -> bool
+        ensures { result ≡ self.now.view.gate.shut }
+    {
+        self.shut
+    }
+
+    /// The gate's epoch: how often it was reopened, 0 to 65,535.
+    pub fn epoch(&self) -> u16
+        ensures { result ≡ self.now.view.gate.epoch }
+    {
+        self.epoch
+    }
+
+    /// How often the ring was resized, 0 to 127.
+    pub fn resizes(&self) -> u8
+        ensures { result ≡ self.now.view.gate.resizes }
+    {
+        self.resizes
+    }
+
+    /// The claim count at the keeper's last step: one more than the last place that was claimed until
+    /// then. Of a shut gate it is the claim count still; of an open one producers may have claimed more
+    /// places since.
+    pub fn claimed(&self) -> u64
+        ensures { result ≡ self.now.view.gate.claimed }
+    {
+        self.claimed
     }
 }
 
@@ -77,6 +110,7 @@ impl TapRing {
     {
         let word = shut_gate(&self.table.shared, &mut k.seat);
         k.claimed = claimed_of(word);
+        k.shut = true;
         k.claimed
     }
 
@@ -104,6 +138,7 @@ impl TapRing {
         }
         let word = reopen_gate(&self.table.shared, &mut k.seat);
         k.claimed = claimed_of(word);
+        k.shut = false;
         k.epoch += 1;
         Ok(k.epoch)
     }

@@ -59,8 +59,12 @@ pub struct View {
     pub opened: LinkedList<u64>,
     /// Of the keeper, the capacity that each resize was given, in order.
     pub resized: LinkedList<u16>,
+    /// Of the keeper, the claim count at the last resize; the ring's first place where there was none.
+    pub resized_from: u64,
     /// The capacity that it stored for the next number of resizes.
     pub stored: Option<u16>,
+    /// What the ring was when the tokens that joined it met it last.
+    pub met: LinkedList<Moment>,
     /// Whether another token took over what it knew.
     pub spent: bool,
     /// What the ring was when it met the gate last; of the keeper, what its own step made of it.

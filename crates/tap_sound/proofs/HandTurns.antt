@@ -21,7 +21,7 @@ use Rattle.tap_world.specs.declared.event.EventKind.TheVariants as event
 use Rattle.tap_world.specs.declared.event.Found.{Found}
 use Rattle.tap_world.specs.declared.event.Found.TheVariants as found
 use Rattle.tap_world.specs.ByNumber.{at}
-use Rattle.tap_world.specs.Then.{◌>>=◌}
+use Rattle.tap_ground.specs.Options.{◌>>=◌}
 use Rattle.tap_world.specs.Frames.{FrameText}
 use Rattle.tap_world.specs.Setup.{Numbered, Setup, frame_sent}
 use Rattle.tap_world.specs.declared.line.Entry.{Entry}

@@ -31,7 +31,7 @@ use Rattle.tap_world.specs.SoundActors.{CanBe, can_be}
 use Rattle.tap_world.specs.Sound.{HasRoom, HasSeen, IsOrdered, table_capacity, has_left}
 use Rattle.tap_world.specs.SoundTable.{Agreed, AgreesWithTable, commanded, expected, of_table, writing}
 use Rattle.tap_sound.specs.Kept.{leaves_sizes}
-use Rattle.tap_world.specs.Then.{◌>>=◌}
+use Rattle.tap_ground.specs.Options.{◌>>=◌}
 use Rattle.tap_sound.proofs.Kit.{only_some, some_same, where_some}
 use Rattle.tap_sound.proofs.Kept.{effect_files, effect_ops, room_is_kept, same_table, step_keeps}
 use Rattle.tap_sound.proofs.Stand.{stands_at}

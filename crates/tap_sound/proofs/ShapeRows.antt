@@ -11,7 +11,7 @@ use Rattle.vring_turns.specs.declared.stage.RxStage.{RxStage}
 use Rattle.vring_turns.specs.RxTurn.{RxTurn, rx_step, rx_begun}
 use Rattle.vring_turns.specs.TxTurn.{TxTurn, tx_step, tx_begun}
 use Rattle.scen_words.specs.declared.command.Command.{Command}
-use Rattle.tap_trace.specs.declared.causes.TapText.{TapText}
+use Rattle.tap_ledger.specs.declared.error.TapErr.{TapErr as TapText}
 use Rattle.tap_trace.specs.declared.turn.ChainText.{ChainText}
 use Rattle.tap_world.specs.declared.event.EventKind.{EventKind}
 use Rattle.tap_world.specs.ByNumber.{at}
@@ -30,7 +30,7 @@ use Rattle.tap_world.specs.Effect.Onward.{Ends, Goes}
 use Rattle.tap_sound.proofs.Kit.{WhereSome, either, where_if, where_only, where_then}
 use Rattle.tap_sound.proofs.Steps.{held, or_else, rx_made, tx_made}
 use Rattle.tap_frame.specs.declared.reading.BadFrame.{BadFrame}
-use Rattle.tap_steer.specs.declared.error.TapErr.{TapErr}
+use Rattle.tap_ledger.specs.declared.error.TapErr.{TapErr}
 use Rattle.tap_steer.specs.declared.selection.Select.{Select}
 use Rattle.tap_world.specs.Effect.OnFiles.{NoFile}
 use Rattle.tap_world.specs.Scripts.{is_kind, next_kind, hand_next, kind_number, purge_next, read_next, rx_next_kind, send_next, shrink_next, tx_next_kind}

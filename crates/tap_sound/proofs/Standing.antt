@@ -13,7 +13,7 @@ use Rattle.vring_turns.specs.RxTurn.{RxTurn, rx_step}
 use Rattle.vring_turns.specs.TxTurn.{TxTurn, tx_step}
 use Rattle.scen_words.specs.declared.command.Command.{Command}
 use Rattle.scen_words.specs.declared.command.Command.TheVariants as command
-use Rattle.tap_trace.specs.declared.causes.TapText.{TapText}
+use Rattle.tap_ledger.specs.declared.error.TapErr.{TapErr as TapText}
 use Rattle.tap_trace.specs.declared.answer.Answer.{Answer}
 use Rattle.tap_trace.specs.declared.turn.ChainText.{ChainText}
 use Rattle.tap_world.specs.declared.event.EventKind.{EventKind}
@@ -49,7 +49,7 @@ use Rattle.tap_world.specs.StepTransmits as tx_turns
 use Rattle.tap_sound.proofs.Kit.{WhereSome, where_if, where_only, where_then}
 use Rattle.tap_sound.proofs.Steps.{held, or_else, own, owning, publication, turning, not_refused, rx_made, tx_made}
 use Rattle.tap_frame.specs.declared.reading.BadFrame.{BadFrame}
-use Rattle.tap_steer.specs.declared.error.TapErr.{TapErr}
+use Rattle.tap_ledger.specs.declared.error.TapErr.{TapErr}
 use Rattle.tap_steer.specs.declared.selection.Select.{Select}
 use Rattle.tap_steer.specs.declared.selection.Select.TheVariants as select
 use Rattle.tap_steer.specs.Select as steer

@@ -7,7 +7,7 @@ use Rattle.tap_steer.specs.declared.operation.Op.{Op}
 use Rattle.tap_steer.specs.Select.{learns}
 use Rattle.scen_words.specs.declared.command.Command.{Command}
 use Rattle.scen_words.specs.declared.command.Command.TheVariants as command
-use Rattle.tap_trace.specs.declared.causes.TapText.{TapText}
+use Rattle.tap_ledger.specs.declared.error.TapErr.{TapErr as TapText}
 use Rattle.tap_world.specs.ByNumber.{at}
 use Rattle.tap_world.specs.Frames.{Front}
 use Rattle.std.proofs.Common.{true≢false}
@@ -30,7 +30,7 @@ use Rattle.tap_world.specs.StepTransmits as tx_turns
 use Rattle.tap_sound.proofs.Kit.{WhereSome, either, where_only, where_then}
 use Rattle.tap_sound.proofs.Steps.{own, publication}
 use Rattle.tap_frame.specs.declared.reading.BadFrame.{BadFrame}
-use Rattle.tap_steer.specs.declared.error.TapErr.{TapErr}
+use Rattle.tap_ledger.specs.declared.error.TapErr.{TapErr}
 use Rattle.tap_steer.specs.declared.selection.Select.{Select}
 use Rattle.tap_steer.specs.declared.selection.Select.TheVariants as select
 use Rattle.tap_steer.specs.Select as steer

@@ -13,7 +13,7 @@ use Rattle.vring_turns.specs.RxTurn.{RxState, RxTurn, rx_step}
 use Rattle.vring_turns.specs.TxTurn.{TxTurn, tx_step}
 use Rattle.scen_words.specs.declared.command.Command.{Command}
 use Rattle.scen_words.specs.declared.command.Command.TheVariants as command
-use Rattle.tap_trace.specs.declared.causes.TapText.{TapText}
+use Rattle.tap_ledger.specs.declared.error.TapErr.{TapErr as TapText}
 use Rattle.tap_trace.specs.declared.answer.Answer.{Answer}
 use Rattle.tap_trace.specs.declared.turn.ChainText.{ChainText}
 use Rattle.tap_world.specs.declared.event.EventKind.{EventKind}

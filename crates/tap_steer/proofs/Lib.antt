@@ -6,3 +6,5 @@ pub mod SoundLemmas
 pub mod SoundOps
 pub mod SlotLemmas
 pub mod LawLemmas
+pub mod FileLaws
+pub mod RowLaws

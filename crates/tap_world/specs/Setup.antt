@@ -14,7 +14,7 @@ use Rattle.scen_words.specs.declared.declaration.Declaration.TheVariants as decl
 use Rattle.scen_text.specs.declared.scenario.Line.{Line}
 use Rattle.scen_text.specs.declared.scenario.Phase.{Phase}
 use Rattle.scen_text.specs.declared.scenario.Scenario.{Scenario}
-use Rattle.tap_world.specs.Then.{◌>>=◌}
+use Rattle.tap_ground.specs.Options.{◌>>=◌}
 use Rattle.tap_world.specs.ByNumber.{at, put_at}
 use Rattle.tap_world.specs.Frames.{FrameText, frame_in, sent_bytes, sent_front}
 

@@ -9,7 +9,7 @@ use Rattle.vhost_dev.specs.Settings.{RingSettings, ring_at}
 use Rattle.vhost_dev.specs.Device.{BeginAtZero}
 use Rattle.vhost_dev.specs.Lists.{AreInOrder}
 use Rattle.vring_turns.specs.Standing.{RxStands, TxStands}
-use Rattle.tap_world.specs.Then.{only_if}
+use Rattle.tap_ground.specs.Options.{only_if}
 use Rattle.tap_world.specs.ByNumber.{at}
 use Rattle.tap_world.specs.Each.{EachActor, EachVhost}
 use Rattle.tap_world.specs.Guests.{Guest, Vhost, is_ring, turn_of}

@@ -6,7 +6,7 @@ use Rattle.tap_world.specs.declared.event.Event.{Event}
 use Rattle.tap_world.specs.declared.event.EventKind.{EventKind}
 use Rattle.tap_world.specs.declared.event.EventKind.TheVariants as event
 use Rattle.tap_world.specs.declared.event.Heard.{Heard}
-use Rattle.tap_world.specs.Then.{◌>>=◌}
+use Rattle.tap_ground.specs.Options.{◌>>=◌}
 use Rattle.tap_world.specs.Setup.{Setup}
 use Rattle.tap_world.specs.World.{Actor, Doing, World, current, table}
 use Rattle.tap_world.specs.World.Doing.{Begun}

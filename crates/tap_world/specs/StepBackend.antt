@@ -1,5 +1,5 @@
 -- This project's own: how a backend is set and unset: its Look, its Drive, its publication, and the owner of its file.
-use Rattle.std.specs.Prelude.{ℕ, ◌+◌, ◌==◌, ◌&&◌, ◌||◌, not, true, false, if◌then◌else◌, [], ◌∷◌, Option, Some, None, is_none, option_map}
+use Rattle.std.specs.Prelude.{ℕ, ◌+◌, ◌==◌, ◌&&◌, ◌||◌, not, true, false, if◌then◌else◌, [], ◌∷◌, Option, Some, None, is_none}
 use Rattle.std.specs.Option.{option_map_or}
 use Rattle.guest_mem.specs.Memory.{Contents}
 use Rattle.tap_ledger.specs.declared.side.Side.{Side}
@@ -17,13 +17,12 @@ use Rattle.scen_words.specs.declared.command.Command.{Command}
 use Rattle.scen_words.specs.declared.command.Command.TheVariants as command
 use Rattle.tap_trace.specs.declared.answer.Answer.{Answer}
 use Rattle.tap_trace.specs.declared.answer.Answer.TheVariants as answer
-use Rattle.tap_trace.specs.declared.causes.TapText.{TapText}
+use Rattle.tap_ledger.specs.declared.error.TapErr.{TapErr as TapText}
 use Rattle.tap_trace.specs.declared.kind.Kind.{Kind}
 use Rattle.tap_trace.specs.declared.kind.Kind.TheVariants as kind
 use Rattle.tap_world.specs.declared.event.Found.TheVariants as found
-use Rattle.tap_world.specs.Then.{◌>>=◌, only_if}
+use Rattle.tap_ground.specs.Options.{◌>>=◌, only_if}
 use Rattle.tap_world.specs.ByNumber.{at}
-use Rattle.tap_world.specs.Causes.{tap_text}
 use Rattle.tap_world.specs.Frames.{Front}
 use Rattle.tap_world.specs.Guests.{Vhost, is_free_for, is_ring, turn_of, vhost_answer, with_turn}
 use Rattle.tap_world.specs.Setup.{Setup}
@@ -45,7 +44,7 @@ side_of ring = if ring == 0 then Rx else Tx
 abbrev pub back_refusal : Table → ℕ → ℕ → Option ℕ → Option TapText
 back_refusal t vhost ring None = None
 back_refusal t vhost ring (Some file) =
-    if is_ring ring then option_map tap_text (refuse t (op.Back file (side_of ring) (Some vhost))) else None
+    if is_ring ring then refuse t (op.Back file (side_of ring) (Some vhost)) else None
 
 -- Look: it holds writer and turn from now on, unless the table refuses it
 abbrev pub back_seen : World → ℕ → ℕ → ℕ → Vhost → Option TapText → Effect

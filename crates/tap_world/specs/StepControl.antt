@@ -23,7 +23,7 @@ use Rattle.tap_trace.specs.declared.causes.DriveText.{DriveText}
 use Rattle.tap_trace.specs.declared.causes.DriveText.TheVariants as drive_text
 use Rattle.tap_trace.specs.declared.kind.Kind.{Kind}
 use Rattle.tap_trace.specs.declared.kind.Kind.TheVariants as kind
-use Rattle.tap_world.specs.Then.{◌>>=◌, only_if}
+use Rattle.tap_ground.specs.Options.{◌>>=◌, only_if}
 use Rattle.tap_world.specs.ByNumber.{at}
 use Rattle.tap_world.specs.Guests.{Vhost, driver_of, is_free_for, is_ring, vhost_answer, with_driver}
 use Rattle.tap_world.specs.World.{World}

@@ -8,7 +8,7 @@ use Rattle.tap_ledger.specs.declared.fate.Cause.TheVariants as cause
 use Rattle.tap_ledger.specs.declared.fate.Fate.TheVariants as fate
 use Rattle.tap_trace.specs.declared.answer.Answer.TheVariants as answer
 use Rattle.tap_world.specs.declared.event.Found.TheVariants as found
-use Rattle.tap_world.specs.Then.{◌>>=◌, only_if}
+use Rattle.tap_ground.specs.Options.{◌>>=◌, only_if}
 use Rattle.tap_world.specs.ByNumber.{at}
 use Rattle.tap_world.specs.Frames.{FrameText, Front, text_in}
 use Rattle.tap_world.specs.Setup.{Setup, frame_of}

@@ -7,7 +7,7 @@ use Rattle.tap_flow_key.specs.FlowKey.{hash}
 use Rattle.tap_frame.specs.declared.name.Name.{Name}
 use Rattle.tap_frame.specs.declared.reading.BadFrame.{BadFrame}
 use Rattle.tap_ledger.specs.declared.fate.Cause.TheVariants as cause
-use Rattle.tap_steer.specs.declared.error.TapErr.{TapErr}
+use Rattle.tap_ledger.specs.declared.error.TapErr.{TapErr}
 use Rattle.tap_steer.specs.declared.files.Attachment.{Attachment}
 use Rattle.tap_steer.specs.declared.files.Attachment.TheVariants.{Enabled}
 use Rattle.tap_steer.specs.declared.operation.Op.{Op}
@@ -21,11 +21,10 @@ use Rattle.tap_steer.specs.Select as steer
 use Rattle.scen_words.specs.declared.command.Command.{Command}
 use Rattle.scen_words.specs.declared.command.Command.TheVariants as command
 use Rattle.tap_trace.specs.declared.answer.Answer.TheVariants as answer
-use Rattle.tap_trace.specs.declared.causes.TapText.TheVariants.{EBADFD}
+use Rattle.tap_ledger.specs.declared.error.TapErr.TheVariants.{EBADFD}
 use Rattle.tap_world.specs.declared.event.Found.TheVariants as found
-use Rattle.tap_world.specs.Then.{◌>>=◌, only_if}
+use Rattle.tap_ground.specs.Options.{◌>>=◌, only_if}
 use Rattle.tap_world.specs.ByNumber.{at}
-use Rattle.tap_world.specs.Causes.{tap_text}
 use Rattle.tap_world.specs.Frames.{Front, bad_in, ether_in, least_in, sent_bytes, sent_front}
 use Rattle.tap_world.specs.Setup.{Setup, op_of}
 use Rattle.tap_world.specs.Line.{File, freed}
@@ -51,7 +50,7 @@ course t other = Changes
 
 -- it ends with the table's refusal, or holds the writer from now on
 abbrev pub decided : World → ℕ → Doing → Option TapErr → Effect
-decided w actor doing (Some refusal) = only (Ends (newest w) (answer.Tap (tap_text refusal))) w
+decided w actor doing (Some refusal) = only (Ends (newest w) (answer.Tap refusal)) w
 decided w actor doing None =
     record (only (Goes (newest w) doing (found.Version (newest w))) w) { writer = Some actor }
 

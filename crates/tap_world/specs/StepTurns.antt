@@ -28,7 +28,7 @@ use Rattle.tap_trace.specs.declared.turn.TurnText.{TurnText}
 use Rattle.tap_trace.specs.declared.turn.TurnText.TheVariants as text
 use Rattle.tap_world.specs.declared.event.Found.{Found}
 use Rattle.tap_world.specs.declared.event.Found.TheVariants as found
-use Rattle.tap_world.specs.Then.{◌>>=◌, only_if}
+use Rattle.tap_ground.specs.Options.{◌>>=◌, only_if}
 use Rattle.tap_world.specs.ByNumber.{at}
 use Rattle.tap_world.specs.Guests.{Vhost, is_free, with_queue, with_turn}
 use Rattle.tap_world.specs.Setup.{Setup, kept_frame}

@@ -4,7 +4,7 @@ use Rattle.std.specs.Option.{option_map_or}
 use Rattle.tap_frame.specs.declared.name.Name.{Name}
 use Rattle.tap_steer.specs.Table.{Table}
 use Rattle.tap_steer.specs.After.{after_all}
-use Rattle.tap_trace.specs.declared.causes.TapText.{TapText}
+use Rattle.tap_ledger.specs.declared.error.TapErr.{TapErr as TapText}
 use Rattle.tap_trace.specs.declared.turn.ChainText.{ChainText}
 use Rattle.vring_turns.specs.RxTurn.{RxTurn}
 use Rattle.vring_turns.specs.TxTurn.{TxTurn}

@@ -9,7 +9,7 @@ ghost use Rattle.vring_drive.specs.Posts.{full_refusal, post_in_refusal, post_ou
 ghost use Rattle.vring_drive.specs.Harvests.{Answers, Unless, harvested, harvested_in};
 
 use crate::area::{self, area_len};
-use crate::error::{DriveErr, OrMemory, PostErr, StrayUsed};
+use crate::error::{DriveErr, PostErr, StrayUsed};
 use crate::fields::{field_at, used_elem_at, write_field};
 use crate::free::{add_all, all_below, lowest, take_lowest};
 use crate::pieces::{first_too_long, piece_count, piece_lens};
@@ -19,6 +19,7 @@ use sqlite_items::Items;
 use std::alloc::{AllocError, Global};
 use std::collections::{BTreeMap, BTreeSet};
 use std::marker::Model;
+use tap_ground::OrMemory;
 use vring_split::Layout;
 
 /// The largest count of descriptors that a refusal tells.

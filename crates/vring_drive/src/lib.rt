@@ -17,8 +17,9 @@ mod pieces;
 mod write;
 
 pub use crate::driver::Driver;
-pub use crate::error::{DriveErr, OrMemory, PostErr, StrayUsed};
+pub use crate::error::{DriveErr, PostErr, StrayUsed};
 pub use crate::laws::descriptors_stay_whole;
+pub use tap_ground::OrMemory;
 
 #[cfg(test)]
 mod tests;

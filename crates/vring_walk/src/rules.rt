@@ -1,6 +1,7 @@
 //! The rules for a descriptor.
 ghost use Rattle.std.specs.Prelude.{◌≡◌, ◌+◌, ◌<◌, ◌^◌, ◌||◌, false};
-ghost use Rattle.vring_walk.specs.Chain.{first_broken, rules_for, is_bad_length};
+ghost use Rattle.tap_ground.specs.Options.{first_that_holds as first_broken};
+ghost use Rattle.vring_walk.specs.Chain.{rules_for, is_bad_length};
 
 use crate::segments::MAX_SEGMENTS;
 use crate::table::Table;
