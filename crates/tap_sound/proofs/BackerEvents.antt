@@ -49,8 +49,6 @@ use Rattle.scen_words.specs.declared.command.Command.TheVariants as command
 use Rattle.tap_world.specs.declared.event.Found.TheVariants as found
 use Rattle.tap_world.specs.StepBackend as back_steps
 use Rattle.tap_world.specs.StepTable as tables
-use Rattle.tap_world.specs.StepTurns as rx_turns
-use Rattle.tap_world.specs.StepTransmits as tx_turns
 
 abbrev pub Backings : Setup → World → Type 0
 Backings s w = HaveBackends (writing w) (commanded w) (table s w) w.vhosts

@@ -1,5 +1,5 @@
 -- What a call on a vhost or a driver makes of the vhost.
-use Rattle.std.proofs.Common.{◌≡◌, ℕ, Bool, true, false, Option, Some, None, refl, subst}
+use Rattle.std.proofs.Common.{◌≡◌, ℕ, Bool, true, false, Option, Some, None, refl}
 use Rattle.std.specs.Prelude.{if◌then◌else◌, ◌==◌}
 use Rattle.guest_mem.specs.Memory.{Contents}
 use Rattle.vhost_dev.specs.declared.error.VhostErr.{VhostErr}

@@ -28,7 +28,6 @@ use Rattle.tap_sound.proofs.RingsKept.{a_guest, vhosts_on, same_guests}
 use Rattle.tap_sound.proofs.ServedMoved.{RingMove, rings_moved, served_moved}
 use Rattle.tap_sound.proofs.ServedMoved.Outcome.{Rest}
 use Rattle.tap_sound.proofs.ServedMoved.RingMove.{Redone, Still}
-use Rattle.vhost_dev.specs.declared.error.VhostErr.{VhostErr}
 use Rattle.vhost_dev.specs.Laws.Call.{SetAddr, SetBackend, SetBase, SetFeatures, SetNum, UnsetBackend}
 use Rattle.vhost_dev.specs.Refusals.{number_refusal, ready_refusal}
 use Rattle.std.proofs.lemmas.Bool.Decides.{eqb_tells}

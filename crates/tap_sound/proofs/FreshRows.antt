@@ -5,7 +5,6 @@ use Rattle.std.proofs.lemmas.Bool.Decides.{eqb_tells}
 use Rattle.std.specs.Prelude.{if◌then◌else◌, ◌==◌, ◌&&◌, ◌||◌, is_none, not, nat_lt, slice_get}
 use Rattle.std.specs.Option.{option_map_or}
 use Rattle.guest_mem.specs.Memory.{Contents}
-use Rattle.tap_flow_key.specs.FlowKey.{hash}
 use Rattle.tap_frame.specs.declared.name.Name.{Name}
 use Rattle.tap_frame.specs.declared.reading.BadFrame.{BadFrame}
 use Rattle.tap_frame.specs.Frame.{FrameValue}
@@ -22,10 +21,8 @@ use Rattle.tap_steer.specs.Rules.{refuse}
 use Rattle.tap_steer.specs.Select as steer
 use Rattle.tap_steer.specs.Select.{learns}
 use Rattle.tap_steer.specs.Table.{Table, file_at, is_set}
-use Rattle.vhost_dev.specs.declared.error.VhostErr.{VhostErr}
 use Rattle.vhost_dev.specs.Refusals.{number_refusal}
 use Rattle.vhost_dev.specs.Settings.{hdr_of, ring_at}
-use Rattle.vring_turns.specs.declared.end.End.{End}
 use Rattle.vring_turns.specs.declared.stage.TxStage.{TxStage}
 use Rattle.vring_turns.specs.declared.stage.TxStage.TheVariants as tx
 use Rattle.vring_turns.specs.RxTurn.{RxTurn, rx_begun, rx_step}
@@ -50,7 +47,6 @@ use Rattle.tap_world.specs.Guests.{Vhost, is_free, is_ring, turn_of}
 use Rattle.tap_world.specs.World.{Actor, Doing, World, name_of, newest, table}
 use Rattle.tap_world.specs.World.Doing.{Backed, Backs, Begun, Changes, Disowned, Given, Hosts, Learns, Opened, Opens, Owns, Placed, Purges, Reads, Receives, Released, Resizes, Routed, Shrinks, Teaches, Transmits, Unbacked, Withdrawn, Withdraws}
 use Rattle.tap_world.specs.Effect.{Effect, Onward, only}
-use Rattle.tap_world.specs.Effect.OnFiles.{NoFile}
 use Rattle.tap_world.specs.Effect.Onward.{Ends, Goes, Stays}
 use Rattle.tap_world.specs.Stands.{names_of, placed_by, times_in}
 use Rattle.vring_turns.specs.TxRun.{is_giving}

@@ -4,7 +4,6 @@ use Rattle.std.specs.Prelude.{if◌then◌else◌, ◌==◌, ◌&&◌, ◌||◌,
 use Rattle.std.specs.List.{AllByRecursion}
 use Rattle.std.specs.Option.{option_map_or}
 use Rattle.guest_mem.specs.Memory.{Contents, first_bad}
-use Rattle.tap_flow_key.specs.FlowKey.{hash}
 use Rattle.tap_frame.specs.declared.name.Name.{Name}
 use Rattle.tap_frame.specs.declared.reading.BadFrame.{BadFrame}
 use Rattle.tap_frame.specs.Frame.{FrameValue}
@@ -30,7 +29,6 @@ use Rattle.vring_drive.specs.Area.{drive_refusal}
 use Rattle.vring_drive.specs.Books.{Books, first_books}
 use Rattle.vring_drive.specs.Harvests.{harvested}
 use Rattle.vring_drive.specs.Posts.{post_in_refusal, post_out_refusal}
-use Rattle.vring_turns.specs.declared.end.End.{End}
 use Rattle.vring_turns.specs.declared.stage.TxStage.{TxStage}
 use Rattle.vring_turns.specs.declared.stage.TxStage.TheVariants as tx
 use Rattle.vring_turns.specs.RxTurn.{RxTurn, rx_begun, rx_step}
@@ -58,7 +56,6 @@ use Rattle.tap_world.specs.Guests.{Vhost, driver_of, is_free, is_ring, turn_of, 
 use Rattle.tap_world.specs.World.{Actor, Doing, World, name_of, newest, table}
 use Rattle.tap_world.specs.World.Doing.{Backed, Backs, Begun, Changes, Disowned, Given, Hosts, Learns, Opened, Opens, Owns, Placed, Purges, Reads, Receives, Released, Resizes, Routed, Shrinks, Teaches, Transmits, Unbacked, Withdrawn, Withdraws}
 use Rattle.tap_world.specs.Effect.{Effect, Onward, only}
-use Rattle.tap_world.specs.Effect.OnFiles.{NoFile}
 use Rattle.tap_world.specs.Effect.Onward.{Ends, Goes, Stays}
 use Rattle.tap_world.specs.Stands.{names_of}
 use Rattle.vring_turns.specs.TxRun.{is_giving}

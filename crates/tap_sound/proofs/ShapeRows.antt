@@ -32,7 +32,6 @@ use Rattle.tap_sound.proofs.Steps.{held, or_else, rx_made, tx_made}
 use Rattle.tap_frame.specs.declared.reading.BadFrame.{BadFrame}
 use Rattle.tap_ledger.specs.declared.error.TapErr.{TapErr}
 use Rattle.tap_steer.specs.declared.selection.Select.{Select}
-use Rattle.tap_world.specs.Effect.OnFiles.{NoFile}
 use Rattle.tap_world.specs.Scripts.{is_kind, next_kind, hand_next, kind_number, purge_next, read_next, rx_next_kind, send_next, shrink_next, tx_next_kind}
 use Rattle.vring_turns.specs.declared.stage.TxStage.{TxStage}
 use Rattle.tap_world.specs.Sound.{holds}

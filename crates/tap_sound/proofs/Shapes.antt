@@ -10,7 +10,6 @@ use Rattle.tap_steer.specs.Rules.{refuse}
 use Rattle.vhost_dev.specs.Settings.{hdr_of}
 use Rattle.vring_turns.specs.RxTurn.{RxState, RxTurn, rx_begun, rx_step}
 use Rattle.vring_turns.specs.TxTurn.{TxState, TxTurn, tx_begun, tx_step}
-use Rattle.tap_frame.specs.Frame.{FrameValue}
 use Rattle.vring_turns.specs.declared.stage.TxStage.TheVariants as tx
 use Rattle.scen_words.specs.declared.command.Command.{Command}
 use Rattle.scen_words.specs.declared.command.Command.TheVariants as command

@@ -18,7 +18,6 @@ use Rattle.tap_sound.proofs.Kit.{some_same, then_some}
 use Rattle.tap_sound.proofs.Scripts.{ended_each}
 use Rattle.tap_sound.proofs.Whole.{begun_rest, run_rests}
 use Rattle.tap_sound.proofs.Taken.{if_some}
-use Rattle.tap_sound.proofs.NamesKept.{names_are_kept}
 use Rattle.tap_sound.proofs.TurnRings.{RingLaws}
 use Rattle.std.specs.Option.{option_map_or}
 use Rattle.std.specs.List.{list_any}

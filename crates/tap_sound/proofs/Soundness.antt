@@ -15,7 +15,6 @@ use Rattle.tap_sound.proofs.EventRings.{rings_are_kept}
 use Rattle.tap_sound.proofs.RoomKept.{room_is_always_kept}
 use Rattle.tap_sound.proofs.TurnRings.{RingLaws}
 use Rattle.tap_sound.proofs.Shut.{shut_is_kept}
-use Rattle.tap_sound.proofs.Stand.{stands_are_kept}
 use Rattle.tap_sound.proofs.Tabled.{table_is_kept}
 
 pub soundness_is_kept : RingLaws → (s : Setup) (w : World) (x : Event) (u : World × Heard) → step s w x ≡ Some u → IsSound s w → IsSound s u.0

@@ -8,7 +8,6 @@ use Rattle.tap_ledger.specs.declared.hand.Hand.TheVariants as hand
 use Rattle.tap_steer.specs.declared.operation.Op.{Op}
 use Rattle.tap_steer.specs.Select.{learns}
 use Rattle.vhost_dev.specs.declared.error.VhostErr.{VhostErr}
-use Rattle.vring_turns.specs.declared.end.End.{End}
 use Rattle.vring_turns.specs.RxTurn.{RxTurn, rx_step}
 use Rattle.vring_turns.specs.TxTurn.{TxTurn, tx_step}
 use Rattle.scen_words.specs.declared.command.Command.{Command}
@@ -34,7 +33,6 @@ use Rattle.tap_steer.specs.Rules.{refuse}
 use Rattle.tap_world.specs.World.{Actor, Doing, World, name_of, newest, table}
 use Rattle.tap_world.specs.World.Doing.{Backed, Backs, Begun, Changes, Disowned, Given, Hosts, Learns, Opened, Opens, Owns, Placed, Purges, Reads, Receives, Released, Resizes, Routed, Shrinks, Teaches, Transmits, Unbacked, Withdrawn, Withdraws}
 use Rattle.tap_world.specs.Effect.{Effect, Onward, only}
-use Rattle.tap_flow_key.specs.FlowKey.{hash}
 use Rattle.tap_steer.specs.declared.operation.Op.TheVariants as op
 use Rattle.tap_trace.specs.declared.answer.Answer.TheVariants as answer
 use Rattle.tap_world.specs.declared.event.Found.TheVariants as found
@@ -57,7 +55,6 @@ use Rattle.tap_steer.specs.Table.{Table}
 use Rattle.tap_world.specs.Frames.{bad_in, ether_in, least_in, sent_bytes, sent_front}
 use Rattle.tap_world.specs.LineSteps.{changed}
 use Rattle.tap_world.specs.LineSteps.Change.{Takes}
-use Rattle.tap_world.specs.Effect.OnFiles.{NoFile}
 use Rattle.vring_turns.specs.RxTurn.{rx_begun}
 use Rattle.vring_turns.specs.TxTurn.{tx_begun}
 use Rattle.vhost_dev.specs.Settings.{hdr_of}

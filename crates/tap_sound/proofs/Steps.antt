@@ -35,7 +35,7 @@ use Rattle.tap_world.specs.StepRing as ring
 use Rattle.tap_world.specs.StepTable as tables
 use Rattle.tap_world.specs.StepTurns as rx_turns
 use Rattle.tap_world.specs.StepTransmits as tx_turns
-use Rattle.tap_sound.proofs.Kit.{WhereSome, where_if, where_only, where_some, where_then, some_same}
+use Rattle.tap_sound.proofs.Kit.{WhereSome, where_if, where_some, where_then, some_same}
 use Rattle.tap_sound.proofs.Left.{left_of, rx_closes, rx_left, rx_takes, tx_left}
 use Rattle.tap_sound.proofs.Rows.{RxGoes, TxGives, TxGoes, rx_kind, rx_step_fits, tx_kind, tx_step_fits}
 use Rattle.tap_sound.proofs.Follows.{AllFollow, Follows, Onto}

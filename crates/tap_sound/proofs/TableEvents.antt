@@ -14,7 +14,7 @@ use Rattle.tap_world.specs.SoundActors.{can_be}
 use Rattle.tap_world.specs.SoundTable.{Agreed, IsAsFound, expected}
 use Rattle.tap_sound.proofs.Agreeing.{goes_on, reopening, shutting, sizing, steady}
 use Rattle.tap_sound.proofs.Publishing.{publishing, withdrawing}
-use Rattle.tap_sound.proofs.Shapes.{Alike, IsLast, Shape}
+use Rattle.tap_sound.proofs.Shapes.{Shape}
 use Rattle.tap_sound.proofs.Shapes.Shape.{Giving, Approves, BackApproves, BackDrives, BackPublishes, Calling, Learning, Owning, Publishing, Quiet, Reopening, RxTurning, Shutting, Sizing, Touching, Trims, TxTurning, Withdrawing}
 use Rattle.tap_sound.proofs.TableFiles.{learn_same}
 use Rattle.tap_sound.proofs.Taken.{IsStep, when_settled}
@@ -26,8 +26,6 @@ use Rattle.tap_steer.specs.declared.operation.Op.TheVariants as op
 use Rattle.scen_words.specs.declared.command.Command.TheVariants as command
 use Rattle.tap_world.specs.StepTable as tables
 use Rattle.tap_sound.proofs.Shapes as shapes
-use Rattle.tap_world.specs.StepTurns as rx_turns
-use Rattle.tap_world.specs.StepTransmits as tx_turns
 
 -- an event whose command holds the writer neither before nor after it
 free_event : (s : Setup) (w : World) (x : Event) (u : World) (t : IsStep s w x u) (o : OnFiles) → View w t.between t.actor.doing (doing_after t.effect.onward t.actor.doing) t.now.command

@@ -9,7 +9,6 @@ use Rattle.tap_steer.specs.Table.{Table, file_at, is_set}
 use Rattle.tap_steer.specs.Rules.{refuse}
 use Rattle.tap_steer.specs.After.{after, after_all}
 use Rattle.tap_steer.specs.Select as steer
-use Rattle.vhost_dev.specs.declared.error.VhostErr.{VhostErr}
 use Rattle.vhost_dev.specs.Refusals.{number_refusal, ready_refusal}
 use Rattle.vhost_dev.specs.Settings.{ring_at}
 use Rattle.scen_words.specs.declared.command.Command.{Command}
@@ -37,8 +36,7 @@ use Rattle.tap_sound.proofs.Agreeing.{Files, Fits, disowning, goes_on, owning, s
 use Rattle.tap_sound.proofs.Kept.{effect_files, effect_ops}
 use Rattle.tap_sound.proofs.Publishing.{equal, sets_rx, sets_tx, unsets_rx, unsets_tx}
 use Rattle.tap_sound.proofs.Shapes as shapes
-use Rattle.tap_sound.proofs.Shapes.{Alike, IsLast, Shape}
-use Rattle.tap_sound.proofs.Shapes.Shape.{Giving, Approves, BackApproves, BackDrives, BackPublishes, Calling, Learning, Owning, Publishing, Quiet, Reopening, RxTurning, Shutting, Sizing, Touching, Trims, TxTurning, Withdrawing}
+use Rattle.tap_sound.proofs.Shapes.{Alike}
 use Rattle.tap_sound.proofs.Standing.{answered, first_passed, ring_there}
 use Rattle.tap_sound.proofs.TableFiles.{back_finds, detach_finds}
 use Rattle.tap_sound.proofs.Taken.{IsStep, both}

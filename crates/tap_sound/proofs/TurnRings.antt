@@ -6,7 +6,6 @@ use Rattle.tap_world.specs.World.{Actor, World}
 use Rattle.tap_ledger.specs.declared.hand.Hand.{Hand}
 use Rattle.tap_ledger.specs.declared.act.Act.{Act}
 use Rattle.tap_world.specs.declared.event.Found.{Found}
-use Rattle.vring_turns.specs.declared.end.End.{End}
 use Rattle.tap_world.specs.Setup.{Numbered, Setup}
 use Rattle.guest_mem.specs.Memory.{Contents, covers}
 use Rattle.vring_turns.specs.RxTurn.{RxState, RxTurn, rx_step}

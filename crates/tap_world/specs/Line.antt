@@ -2,7 +2,6 @@
 -- and where each of them stands; and the conditions on the ring.
 use Rattle.std.specs.Prelude.{ℕ, ◌+◌, ◌-◌, ◌^◌, ◌==◌, ◌||◌, not, nat_le, if◌then◌else◌, List, [], ◌∷◌, length, Bool, true, false, Option, Some, None, is_some, is_none, option_map}
 use Rattle.std.specs.Option.{option_map_or}
-use Rattle.tap_frame.specs.declared.name.Name.{Name}
 use Rattle.tap_ledger.specs.declared.fate.Fate.{Fate}
 use Rattle.tap_ledger.specs.declared.fate.Fate.TheVariants.{Waiting, Discarded}
 use Rattle.tap_ledger.specs.declared.fate.Cause.TheVariants as cause

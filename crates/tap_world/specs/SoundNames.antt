@@ -1,5 +1,5 @@
 -- This project's own: part 1 of what is sound. Each name stands once, and the names of accepted frames stand.
-use Rattle.std.specs.Prelude.{◌≡◌, ◌⊎◌, ℕ, ◌≤◌, if◌then◌else◌, List, [], ◌∷◌, Bool, true, false, Option, Some, None, option_map}
+use Rattle.std.specs.Prelude.{◌≡◌, ◌⊎◌, ℕ, ◌≤◌, if◌then◌else◌, List, [], ◌∷◌, Option, Some, None, option_map}
 use Rattle.std.specs.List.{AllByRecursion}
 use Rattle.tap_frame.specs.declared.name.Name.{Name}
 use Rattle.tap_frame.specs.Frame.{FrameValue}
