@@ -370,7 +370,7 @@ turns w actor n seen d c h = turning (To c) w c (tx_turns.goes_on w actor seen d
 hands : (s : Setup) (w : World) (actor seen : ℕ) (d : Doing) (c : Command) → can_be d c ≡ true → AllLead c (tx_turns.hands s w actor seen d c)
 hands s w actor seen (Receives file t) c h = turning (To c) w c _ (λ vhost v m. where_then (To c) (at w.files file) _
     (λ f e1. where_then (To c) (changed (Takes vhost) f) _ (λ g e2. where_then (To c) (rx_turns.front_frame s g) _
-    (λ frame e3. where_then (To c) (rx_step (hand.Got frame) (rx_turns.rx_state t v m)) _ 
+    (λ frame e3. where_then (To c) (rx_step (hand.Got frame) (rx_turns.rx_state t v m)) _
     (λ made e. rx_made (To c) w actor seen vhost file v _ _ made (λ x over e4 told. rx_leads seen file made.0.turn x over c h))))))
 hands s w actor seen d c h = tt
 

@@ -21,7 +21,8 @@ pub record IsInPhase (s : Scenario) (ended : ℕ) (before w : World) : Type 0 wh
   pub so_far : List Event
   pub is : run (setup_of s) so_far (begins ended phase before) ≡ Some w
 
--- A world that a run of the scenario reaches: so many phases have ended, and then perhaps there were events of one more.
+-- A world that a run of the scenario reaches: so many phases have ended, and then perhaps there were events of one
+-- more.
 pub record IsWorldOf (s : Scenario) (w : World) : Type 0 where
   pub ended : ℕ
   pub before : World

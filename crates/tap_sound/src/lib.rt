@@ -1,14 +1,14 @@
 //! What is true of every run of a scenario: laws, each a function that does nothing. The statements stand in `specs/`.
 //!
-//! The first eight carry what is promised. A run's events are the scripts of its commands, the run of a seed is a run, and
-//! nothing is left undone (`specs/Laws.antt`); each world that a run reaches is sound, in ten parts
-//! (`specs/SoundRuns.antt`), since every event keeps a sound world sound (`specs/Soundness.antt`); events have new names
-//! (`specs/Fresh.antt`); and what a trace tells of published chains is counted (`specs/Used.antt`).
-//! `specs/Worlds.antt` says which worlds a run reaches and how one leads to the next, and `specs/Keeps.antt` what it says
-//! that every event keeps a fact.
+//! The first eight carry what is promised. A run's events are the scripts of its commands, the run of a seed is a run,
+//! and nothing is left undone (`specs/Laws.antt`); each world that a run reaches is sound, in ten parts
+//! (`specs/SoundRuns.antt`), since every event keeps a sound world sound (`specs/Soundness.antt`); worlds lead from one
+//! to the next (`specs/Worlds.antt`, which says which a run reaches); events have new names (`specs/Fresh.antt`); and
+//! what a trace tells of published chains is counted (`specs/Used.antt`). `specs/Keeps.antt` says what it is that every
+//! event keeps a fact.
 //!
-//! The others are steps on the way: one or a few of the ten parts each, with the parts of the world before that they rest
-//! on (`specs/Kept.antt`, `specs/Names.antt`, `specs/Room.antt`, `specs/Hand.antt`, `specs/Held.antt`,
+//! The others are steps on the way: one or a few of the ten parts each, with the parts of the world before that they
+//! rest on (`specs/Kept.antt`, `specs/Names.antt`, `specs/Room.antt`, `specs/Hand.antt`, `specs/Held.antt`,
 //! `specs/Tabled.antt`, `specs/Served.antt`, `specs/Reached.antt`). The proofs begin with `proofs/Kit.antt` and
 //! `proofs/Taken.antt`, which take a step apart.
 #![tactic(auto)]
@@ -47,8 +47,8 @@ pub fn all_is_done()
     ensures { AllIsDone }
 {}
 
-/// Each world that a run reaches is sound, between phases and in them, and the one that it ends in, where declared first
-/// places are at most 2^40 - 1 and each vhost's guest has a region.
+/// Each world that a run reaches is sound, between phases and in them, and the one that it ends in, where declared
+/// first places are at most 2^40 - 1 and each vhost's guest has a region.
 pub fn runs_are_sound()
     ensures reached { ReachedIsSound }
     ensures ended { RunIsSound }
@@ -69,8 +69,8 @@ pub fn soundness_is_kept()
     vhost_dev::lists_stay_in_order();
 }
 
-/// The worlds that a run reaches lead from one to the next: from the first on phases begin, events go on and phases end,
-/// and after the last phase it is a run. Each event of a world of a scenario leads to one.
+/// The worlds that a run reaches lead from one to the next: from the first on phases begin, events go on and phases
+/// end, and after the last phase it is a run. Each event of a world of a scenario leads to one.
 pub fn worlds_go_on()
     ensures first { OpeningIsFirst }
     ensures begin { PhasesBegin }
@@ -124,8 +124,8 @@ pub fn shut_is_kept()
     ensures { ShutIsKept }
 {}
 
-/// Every event keeps that each command has come no further than it can, and that the writer and the rings' turns are held
-/// exactly by the commands that hold them.
+/// Every event keeps that each command has come no further than it can, and that the writer and the rings' turns are
+/// held exactly by the commands that hold them.
 pub fn holders_are_kept()
     ensures { HoldersAreKept }
 {}

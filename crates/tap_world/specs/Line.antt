@@ -7,7 +7,6 @@ use Rattle.tap_ledger.specs.declared.fate.Fate.TheVariants.{Waiting, Discarded}
 use Rattle.tap_ledger.specs.declared.fate.Cause.TheVariants as cause
 use Rattle.tap_world.specs.declared.line.Standing.TheVariants.{Batched, Claimed, Cut, Out, Ready}
 use Rattle.tap_ground.specs.Options.{only_if}
-
 pub use Rattle.tap_world.specs.declared.line.Entry.{Entry}
 pub use Rattle.tap_world.specs.declared.line.Standing.{Standing}
 

@@ -60,8 +60,8 @@ has_left other = true
 abbrev pub table_capacity : ℕ → Table → ℕ
 table_capacity file t = (file_at t file).capacity
 
--- A line is in order. An entry that is out has a fate. Claimed - freed is at most the capacity, or, between a resize and
--- its publication, at most the greater of this one and the table's.
+-- A line is in order. An entry that is out has a fate. Claimed - freed is at most the capacity, or, between a resize
+-- and its publication, at most the greater of this one and the table's.
 pub record HasRoom (tabled : ℕ) (f : File) : Type 0 where
   pub ordered : IsOrdered f
   pub fates : AllByRecursion (λ (e : Entry). has_left e.stands ≡ true) f.line
@@ -172,8 +172,8 @@ holds (Teaches file t chains frame) = false
 abbrev pub WriterIsHeld : World → ℕ → Actor → Type 0
 WriterIsHeld w actor a = holds a.doing ≡ option_map_or (λ other. other == actor) w.writer false
 
--- Each command has come as far as it can and no further. The writer and the rings' turns are held exactly by the commands
--- under way that hold them, which are actors'.
+-- Each command has come as far as it can and no further. The writer and the rings' turns are held exactly by the
+-- commands under way that hold them, which are actors'.
 pub record HaveActors (w : World) : Type 0 where
   pub stand : EachActor w (λ actor a. CanBe a)
   pub writer : EachActor w (WriterIsHeld w)
