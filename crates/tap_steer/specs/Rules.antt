@@ -14,7 +14,7 @@ use Rattle.tap_steer.specs.declared.operation.Op.TheVariants as op
 use Rattle.tap_steer.specs.declared.operation.TheConstants.{IFF_TAP, IFF_MULTI_QUEUE, IFF_TUN_EXCL, IFF_UNSUPPORTED, IFF_ATTACH_QUEUE, IFF_DETACH_QUEUE}
 use Rattle.tap_steer.specs.declared.rules.TheConstants.{LEAST_HEADER_SIZE, MAX_DEVICES, MAX_EPOCH, MAX_RESIZES, MOST_HEADER_SIZE}
 use Rattle.tap_steer.specs.Table.{Table, Device, file_at, device_of, is_disabled, exists, has, at_home, queue_count, is_set}
-use Rattle.tap_ground.specs.Options.{first_that_holds as first_broken}
+pub use Rattle.tap_ground.specs.Options.{first_that_holds as first_broken}
 
 -- a rule: where the test is true, this is the refusal
 abbrev pub Rule : Type 0

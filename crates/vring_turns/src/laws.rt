@@ -5,7 +5,7 @@ ghost use Rattle.vring_turns.specs.RxRun.{ReceiveTurnsDo};
 ghost use Rattle.vring_turns.specs.Publications.{TransmitTurnsPublish, ReceiveTurnsPublish};
 ghost use Rattle.vring_turns.specs.RxLine.{ReceiveTurnsPass};
 ghost use Rattle.vring_turns.specs.Standing.{TransmitTurnsBegin, TransmitTurnsStand, TransmitTurnsKeepOrder, ReceiveTurnsBegin, ReceiveTurnsStand, ReceiveTurnsKeepOrder};
-ghost use Rattle.vring_turns.specs.Ready.{TransmitTurnsBeginReady, TransmitTurnsStayReady, TransmitTurnsGoOn, ReceiveTurnsBeginReady, ReceiveTurnsStayReady, ReceiveTurnsGoOn};
+ghost use Rattle.vring_turns.specs.Ready.{TransmitTurnsBeginReady, TransmitTurnsStayReady, TransmitTurnsGoOn, NoChainIsCrowded, ReceiveTurnsBeginReady, ReceiveTurnsStayReady, ReceiveTurnsGoOn};
 ghost use Rattle.vring_turns.specs.Ends.{TransmitTurnsTell, TransmitTurnsEnd, ReceiveTurnsTell, ReceiveTurnsEnd, ReceiveTurnsAreShort};
 ghost use Rattle.vring_turns.specs.RxExamples.{TwoChainsTakeIt, OneChainIsShort, OneChainOverruns, BadTableStops, NoChainIsShort};
 
@@ -61,7 +61,7 @@ pub fn receive_standing()
 pub fn transmit_ready()
     ensures begins { TransmitTurnsBeginReady }
     ensures stays { TransmitTurnsStayReady }
-    ensures goes_on { TransmitTurnsGoOn }
+    ensures goes_on { NoChainIsCrowded → TransmitTurnsGoOn }
 {}
 
 /// A receive turn has ready what its next step needs, whatever others write into the memory between its steps,
