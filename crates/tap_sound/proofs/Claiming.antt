@@ -21,7 +21,6 @@ use Rattle.tap_world.specs.declared.event.EventKind.TheVariants as event
 use Rattle.tap_world.specs.declared.event.Found.{Found}
 use Rattle.tap_world.specs.ByNumber.{at}
 use Rattle.tap_world.specs.Frames.{Front}
-use Rattle.vhost_dev.specs.Refusals.{number_refusal}
 use Rattle.vhost_dev.specs.Settings.{ring_at}
 use Rattle.tap_world.specs.Setup.{Setup, op_of, frame_of}
 use Rattle.tap_world.specs.Line.{File, claimed, first_that, front_place, in_batch, in_ring, last_that}
@@ -44,7 +43,7 @@ use Rattle.tap_world.specs.StepTable as tables
 use Rattle.tap_world.specs.StepTurns as rx_turns
 use Rattle.tap_world.specs.StepTransmits as tx_turns
 use Rattle.tap_sound.proofs.Kit.{WhereSome, either, where_if, where_only, where_then}
-use Rattle.tap_sound.proofs.Steps.{held, or_else, own, owning, publication, turning, rx_made, tx_made}
+use Rattle.tap_sound.proofs.Steps.{held, or_else, own, owning, publication, turning, tx_made, rx_missed, rx_stepped, rx_taken, setting, unsetting}
 use Rattle.tap_frame.specs.declared.reading.BadFrame.{BadFrame}
 use Rattle.tap_ledger.specs.declared.error.TapErr.{TapErr}
 use Rattle.tap_steer.specs.declared.selection.Select.{Select}
@@ -55,7 +54,7 @@ use Rattle.tap_world.specs.Frames.{bad_in, ether_in, least_in, sent_bytes, sent_
 use Rattle.tap_world.specs.LineSteps.{changed}
 use Rattle.tap_world.specs.LineSteps.Change.{Claims, Shuts, Takes}
 use Rattle.tap_world.specs.Effect.{OnFiles}
-use Rattle.tap_world.specs.Effect.OnFiles.{NoFile, OnFile}
+use Rattle.tap_world.specs.Effect.OnFiles.{OnFile}
 use Rattle.vring_turns.specs.RxTurn.{rx_begun}
 use Rattle.vring_turns.specs.TxTurn.{tx_begun}
 use Rattle.vhost_dev.specs.Settings.{hdr_of}
@@ -256,9 +255,9 @@ unsets_back w me actor seen vhost r v m None (Some file) = tt
 
 backs : (s : Setup) (w : World) (me : ℕ) (actor seen : ℕ) (d : Doing) (c : Command) → AllClaim w me (back.backs s w actor seen d c)
 backs s w me actor seen (Backs x) (command.Backend vhost r None) = where_then (Claiming w me) (at w.vhosts vhost) _ (λ v e1. where_then (Claiming w me) (at w.guests v.guest) _
-    (λ g e2. where_if (Claiming w me) _ _ (λ y. where_then (Claiming w me) (back.refused_by (number_refusal r)) _ (λ told e3. unsets_back w me actor seen vhost r v g.memory told (ring_at r v.settings).file))))
+    (λ g e2. unsetting (Claiming w me) s w actor seen x vhost r v g.memory (λ told e3. unsets_back w me actor seen vhost r v g.memory told (ring_at r v.settings).file)))
 backs s w me actor seen (Backs x) (command.Backend vhost r (Some file)) = where_then (Claiming w me) (at w.vhosts vhost) _ (λ v e1. where_then (Claiming w me) (at w.guests v.guest) _
-    (λ g e2. where_if (Claiming w me) _ _ (λ y. where_then (Claiming w me) (back.back_answer _ _ _) _ (λ told e3. sets_back w me actor seen vhost r file x v g.memory told))))
+    (λ g e2. setting (Claiming w me) s w actor seen x vhost r file v g.memory (λ told e3. sets_back w me actor seen vhost r file x v g.memory told)))
 backs s w me actor seen d c = tt
 
 drive_row : (s : Setup) (w : World) (me : ℕ) (actor seen : ℕ) (d : Doing) (c : Command) → AllClaim w me (rows.drive_row s w actor seen d c)
@@ -286,7 +285,7 @@ rx_change w me vhost file t st o = tt
 
 rx_steps_on : (w : World) (me actor seen vhost file : ℕ) (t : RxTurn) (v : Vhost) (m : Contents) → AllClaim w me (rx_turns.rx_steps_on w actor seen vhost file t v m)
 rx_steps_on w me actor seen vhost file t v m = where_then (Claiming w me) (rx_step hand.Off (rx_turns.rx_state t v m)) _
-    (λ made e. rx_made (Claiming w me) w actor seen vhost file v _ _ made (λ f over e2 told. rx_change w me vhost file t t.stage _))
+    (λ made e. rx_stepped (Claiming w me) w actor seen vhost file t v made (λ f over e2 told. rx_change w me vhost file t t.stage _))
 
 tx_steps_on : (w : World) (me actor seen vhost file : ℕ) (t : TxTurn) (told : List ChainText) (v : Vhost) (m : Contents)
     → AllClaim w me (tx_turns.tx_steps_on w actor seen vhost file t told v m)
@@ -314,13 +313,13 @@ hands : (s : Setup) (w : World) (me actor seen : ℕ) (d : Doing) (c : Command) 
 hands s w me actor seen (Receives file t) c = turning (Claiming w me) w c _ (λ vhost v m. where_then (Claiming w me) (at w.files file) _
     (λ f e1. where_then (Claiming w me) (changed (Takes vhost) f) _ (λ g e2. where_then (Claiming w me) (rx_turns.front_frame s g) _
     (λ frame e3. where_then (Claiming w me) (rx_step (hand.Got frame) (rx_turns.rx_state t v m)) _
-    (λ made e. rx_made (Claiming w me) w actor seen vhost file v _ _ made (λ x over e4 told. tt))))))
+    (λ made e. rx_taken (Claiming w me) w actor seen vhost file v frame made (λ over told. tt))))))
 hands s w me actor seen d c = tt
 
 finds_nothing : (w : World) (me actor seen : ℕ) (d : Doing) (c : Command) → AllClaim w me (tx_turns.turn_finds_none w actor seen d c)
 finds_nothing w me actor seen (Receives file t) c = turning (Claiming w me) w c _ (λ vhost v m. where_then (Claiming w me) (at w.files file) _
     (λ f e1. where_then (Claiming w me) (rx_step (hand.NotReady (front_place f)) (rx_turns.rx_state t v m)) _
-    (λ made e. where_if (Claiming w me) _ _ (λ b2. rx_made (Claiming w me) w actor seen vhost file v NoFile (Some (found.NotReady (front_place f))) made (λ x over e2 told. tt)))))
+    (λ made e. rx_missed (Claiming w me) w actor seen vhost file v f made (λ over told. tt))))
 finds_nothing w me actor seen d c = tt
 
 gives : (w : World) (me seen : ℕ) (d : Doing) (c : Command) → AllClaim w me (tx_turns.hosts_of_turn w seen d c)

@@ -20,10 +20,9 @@ use Rattle.tap_world.specs.ByNumber.{at}
 use Rattle.tap_world.specs.Grammar.{HasForm, Perhaps}
 use Rattle.tap_world.specs.Grammar.Grammar.{Nothing, One, ◌⨾◌}
 use Rattle.tap_world.specs.Frames.{Front}
-use Rattle.vhost_dev.specs.Refusals.{number_refusal}
 use Rattle.vhost_dev.specs.Settings.{ring_at}
 use Rattle.std.proofs.Common.{true≢false}
-use Rattle.tap_world.specs.Setup.{Numbered, Setup}
+use Rattle.tap_world.specs.Setup.{Numbered, Setup, frame_of}
 use Rattle.tap_world.specs.Line.{File, first_that, front_place, has_batch, in_batch, in_ring, is_full, is_gone, is_over, is_spent, last_that}
 use Rattle.tap_world.specs.LineSteps.{ready_front}
 use Rattle.tap_world.specs.Guests.{Vhost}
@@ -40,10 +39,10 @@ use Rattle.tap_world.specs.StepBackend as back
 use Rattle.tap_world.specs.StepRing as ring
 use Rattle.tap_world.specs.StepTable as tables
 use Rattle.tap_world.specs.StepTransmits as tx_turns
-use Rattle.tap_sound.proofs.Kit.{either, where_only, where_then, where_if}
+use Rattle.tap_sound.proofs.Kit.{either, where_only, where_then}
 use Rattle.tap_sound.proofs.Left.{left_of}
 use Rattle.tap_sound.proofs.Rows.{rx_kind, tx_kind}
-use Rattle.tap_sound.proofs.Steps.{Gives, give_follows, hand_follows, held, none_follows, or_else, own, owning, publication, rx_follows, turning, tx_follows}
+use Rattle.tap_sound.proofs.Steps.{Gives, give_follows, hand_follows, held, none_follows, or_else, own, owning, publication, rx_follows, turning, tx_follows, setting, unsetting}
 use Rattle.tap_sound.proofs.Firsts.{RowFollows, begun_follows, given_follows}
 use Rattle.tap_sound.proofs.Follows.{AllFollow, Follows, Onto, at_file_kind, at_kind}
 
@@ -69,12 +68,12 @@ backs_follow : (s : Setup) (w : World) (actor seen : ℕ) (x : Option TapText) (
     → AllFollow (Backs x) c event.Drive (back.backs s w actor seen (Backs x) c)
 backs_follow s w actor seen x (command.Backend vhost r None) =
     let P : Effect → Type 0 = Follows (Backs x) (command.Backend vhost r None) event.Drive in
-    where_then P (at w.vhosts vhost) _ (λ v e1. where_then P (at w.guests v.guest) _ (λ g e2. where_if P _ _ (λ b. where_then P (back.refused_by (number_refusal r)) _
-    (λ told e3. unsets w actor seen vhost r x v g.memory told (ring_at r v.settings).file))))
+    where_then P (at w.vhosts vhost) _ (λ v e1. where_then P (at w.guests v.guest) _ (λ g e2. unsetting P s w actor seen x vhost r v g.memory
+    (λ told e3. unsets w actor seen vhost r x v g.memory told (ring_at r v.settings).file)))
 backs_follow s w actor seen x (command.Backend vhost r (Some file)) =
     let P : Effect → Type 0 = Follows (Backs x) (command.Backend vhost r (Some file)) event.Drive in
-    where_then P (at w.vhosts vhost) _ (λ v e1. where_then P (at w.guests v.guest) _ (λ g e2. where_if P _ _ (λ b. where_then P (back.back_answer _ x _) _
-    (λ told e3. sets w actor seen vhost r file x v g.memory told))))
+    where_then P (at w.vhosts vhost) _ (λ v e1. where_then P (at w.guests v.guest) _ (λ g e2. setting P s w actor seen x vhost r file v g.memory
+    (λ told e3. sets w actor seen vhost r file x v g.memory told)))
 backs_follow s w actor seen x c = tt
 
 backed_follows : (w : World) (file : ℕ) (c : Command) → AllFollow (Backed file) c event.Publish (back.publishes_back w (Backed file) c)
@@ -131,7 +130,7 @@ reads_out : (s : Setup) (w : World) (actor n seen file room : ℕ) (front : Fron
 reads_out s w actor n seen file room front c =
     let P : Effect → Type 0 = Follows (Reads file room front) c event.Out in
     or_else P (ring.leaves s w seen (Reads file room front)) (tx_turns.turns w actor n seen (Reads file room front) c)
-    (where_then P (at w.files file) _ (λ f e1. where_then P (first_that in_batch f.line) _ (λ i e2. where_then P (slice_get f.line i) _ (λ x e3. (0, inr (inl (refl, refl)))))))
+    (where_then P (at w.files file) _ (λ f e1. where_then P (first_that in_batch f.line) _ (λ i e2. where_then P (slice_get f.line i) _ (λ x e3. where_then P (frame_of s x.name x.len) _ (λ q e4. (0, inr (inl (refl, refl))))))))
     (turning P w c (tx_turns.goes_on w actor seen (Reads file room front)) (λ vhost v m. tt))
 
 reads_none : (w : World) (actor seen file room : ℕ) (front : Front) (c : Command)

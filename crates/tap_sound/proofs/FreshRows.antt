@@ -21,7 +21,6 @@ use Rattle.tap_steer.specs.Rules.{refuse}
 use Rattle.tap_steer.specs.Select as steer
 use Rattle.tap_steer.specs.Select.{learns}
 use Rattle.tap_steer.specs.Table.{Table, file_at, is_set}
-use Rattle.vhost_dev.specs.Refusals.{number_refusal}
 use Rattle.vhost_dev.specs.Settings.{hdr_of, ring_at}
 use Rattle.vring_turns.specs.declared.stage.TxStage.{TxStage}
 use Rattle.vring_turns.specs.declared.stage.TxStage.TheVariants as tx
@@ -49,7 +48,7 @@ use Rattle.tap_world.specs.World.Doing.{Backed, Backs, Begun, Changes, Disowned,
 use Rattle.tap_world.specs.Effect.{Effect, Onward, only}
 use Rattle.tap_world.specs.Effect.Onward.{Ends, Goes, Stays}
 use Rattle.tap_world.specs.Stands.{names_of, placed_by, times_in}
-use Rattle.vring_turns.specs.TxRun.{is_giving}
+use Rattle.vring_turns.specs.Stage.{is_giving}
 use Rattle.tap_world.specs.Scripts.{is_kind, next_kind, tx_next_kind}
 use Rattle.tap_world.specs.SoundActors.{can_be}
 use Rattle.vring_turns.specs.TxTurn.{tx_next}
@@ -63,7 +62,7 @@ use Rattle.tap_world.specs.StepTable as tables
 use Rattle.tap_world.specs.StepTurns as rx_turns
 use Rattle.tap_world.specs.StepTransmits as tx_turns
 use Rattle.tap_sound.proofs.Kit.{WhereSome, either, some_same, where_if, where_only, where_some, where_then}
-use Rattle.tap_sound.proofs.Steps.{held, or_else, own, owning, publication, turning, rx_made, tx_made}
+use Rattle.tap_sound.proofs.Steps.{held, or_else, own, owning, publication, turning, tx_made, rx_missed, rx_stepped, rx_taken, setting, unsetting}
 use Rattle.tap_sound.proofs.NamesRows.{IsNotGiving, not_giving}
 use Rattle.tap_sound.proofs.ShapeRows.{look_first}
 use Rattle.tap_sound.proofs.FreshTurns.{Accepts, Gives, give_accepts, step_accepts}
@@ -326,12 +325,12 @@ module _ (F G : Name → Type 0) (me n : ℕ) where
   backs : (s : Setup) (w : World) (actor seen : ℕ) (d : Doing) (c : Command) → AllTell d (back.backs s w actor seen d c)
   backs s w actor seen (Backs x) (command.Backend vhost r None) = let d : Doing = Backs x in
       where_then (Tells d) (at w.vhosts vhost) _ (λ v e1. where_then (Tells d) (at w.guests v.guest) _
-      (λ g e2. where_if (Tells d) _ _ (λ y. where_then (Tells d) (back.refused_by (number_refusal r)) _
-      (λ told e3. unsets_back w d actor seen vhost r v g.memory told (ring_at r v.settings).file))))
+      (λ g e2. unsetting (Tells d) s w actor seen x vhost r v g.memory
+      (λ told e3. unsets_back w d actor seen vhost r v g.memory told (ring_at r v.settings).file)))
   backs s w actor seen (Backs x) (command.Backend vhost r (Some file)) = let d : Doing = Backs x in
       where_then (Tells d) (at w.vhosts vhost) _ (λ v e1. where_then (Tells d) (at w.guests v.guest) _
-      (λ g e2. where_if (Tells d) _ _ (λ y. where_then (Tells d) (back.back_answer _ x _) _
-      (λ told e3. sets_back w d actor seen vhost r file x v g.memory told))))
+      (λ g e2. setting (Tells d) s w actor seen x vhost r file v g.memory
+      (λ told e3. sets_back w d actor seen vhost r file x v g.memory told)))
   backs s w actor seen d c = tt
 
   drive_row : (s : Setup) (w : World) (actor seen : ℕ) (d : Doing) (c : Command) → AllTell d (rows.drive_row s w actor seen d c)
@@ -363,7 +362,7 @@ module _ (F G : Name → Type 0) (me n : ℕ) where
 
   rx_steps_on : (w : World) (d : Doing) (actor seen vhost file : ℕ) (t : RxTurn) (v : Vhost) (m : Contents) → AllTell d (rx_turns.rx_steps_on w actor seen vhost file t v m)
   rx_steps_on w d actor seen vhost file t v m = where_then (Tells d) (rx_step hand.Off (rx_turns.rx_state t v m)) _
-      (λ made e. rx_made (Tells d) w actor seen vhost file v _ _ made
+      (λ made e. rx_stepped (Tells d) w actor seen vhost file t v made
       (λ f over e2 told. λ h. (inl (rx_none vhost file t t.stage), λ g. rx_after d seen file made.0.turn f over)))
 
   fresh_step : (t : TxTurn) (made : TxState × Act) → Accepts t made → ((m : Name) → F m → G m) → FreshTurn me n F t → FreshTurn me n G made.0.turn × FreshFrame me n G made.0.turn
@@ -419,15 +418,15 @@ module _ (F G : Name → Type 0) (me n : ℕ) where
       turning (Tells d) w c _ (λ vhost v m. where_then (Tells d) (at w.files file) _
       (λ f e1. where_then (Tells d) (changed (Takes vhost) f) _ (λ g e2. where_then (Tells d) (rx_turns.front_frame s g) _
       (λ frame e3. where_then (Tells d) (rx_step (hand.Got frame) (rx_turns.rx_state t v m)) _
-      (λ made e. rx_made (Tells d) w actor seen vhost file v _ _ made (λ x over e4 told. λ h. (inl refl, λ g. rx_after d seen file made.0.turn x over)))))))
+      (λ made e. rx_taken (Tells d) w actor seen vhost file v frame made (λ over told. λ h. (inl refl, λ g. rx_after d seen file made.0.turn _ over)))))))
   hands s w actor seen d c = tt
 
   finds_nothing : (w : World) (actor seen : ℕ) (d : Doing) (c : Command) → AllTell d (tx_turns.turn_finds_none w actor seen d c)
   finds_nothing w actor seen (Receives file t) c = let d : Doing = Receives file t in
       turning (Tells d) w c _ (λ vhost v m. where_then (Tells d) (at w.files file) _
       (λ f e1. where_then (Tells d) (rx_step (hand.NotReady (front_place f)) (rx_turns.rx_state t v m)) _
-      (λ made e. where_if (Tells d) _ _ (λ b. rx_made (Tells d) w actor seen vhost file v _ _ made
-      (λ x over e4 told. λ h. (inl refl, λ g. rx_after d seen file made.0.turn x over))))))
+      (λ made e. rx_missed (Tells d) w actor seen vhost file v f made
+      (λ over told. λ h. (inl refl, λ g. rx_after d seen file made.0.turn _ over)))))
   finds_nothing w actor seen d c = tt
 
   -- the frame that is given is the one that was accepted last

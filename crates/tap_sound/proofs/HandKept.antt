@@ -30,7 +30,7 @@ use Rattle.tap_world.specs.Step.{row, step}
 use Rattle.tap_world.specs.Each.{EachActor, EachFile}
 use Rattle.tap_world.specs.SoundActors.{CanBe, can_be}
 use Rattle.tap_world.specs.SoundRings.{is_about}
-use Rattle.vring_turns.specs.RxLine.{has_frame}
+use Rattle.vring_turns.specs.Stage.{has_in_hand}
 use Rattle.tap_world.specs.Sound.{HandIsOwners, InThreeParts, front_name, holds_name, is_receiving, is_serving}
 use Rattle.tap_world.specs.Runs.{begins, has_ended, opening, run, run_phases}
 use Rattle.tap_sound.specs.Worlds.{IsWorldOf}
@@ -73,10 +73,10 @@ serves_of vhost file n (x ∷ xs) (suc i) a at is = go (is_serving vhost file n 
     go false h = h
 
 -- a turn on the file with this frame in hand
-receiving : (file : ℕ) (n : Name) (d : Doing) → is_receiving file n d ≡ true → (t : RxTurn) × (d ≡ Receives file t) × (has_frame t.stage ≡ true) × (holds_name n t.held ≡ true)
+receiving : (file : ℕ) (n : Name) (d : Doing) → is_receiving file n d ≡ true → (t : RxTurn) × (d ≡ Receives file t) × (has_in_hand t.stage ≡ true) × (holds_name n t.held ≡ true)
 receiving file n (Receives other t) e =
-    let a = both (other == file && has_frame t.stage) (holds_name n t.held) e in
-    let b = both (other == file) (has_frame t.stage) a.0 in (
+    let a = both (other == file && has_in_hand t.stage) (holds_name n t.held) e in
+    let b = both (other == file) (has_in_hand t.stage) a.0 in (
       t,
       ap (λ k. Receives k t) (⊎_elim (λ p. p.1) (λ p. absurd (true≢false (sym b.0 ∙ p.0))) (eqb_tells other file)),
       b.1,
@@ -84,9 +84,9 @@ receiving file n (Receives other t) e =
     )
 receiving file n d e = absurd (true≢false (sym e))
 
-receives : (file : ℕ) (n : Name) (t : RxTurn) → has_frame t.stage ≡ true → holds_name n t.held ≡ true → is_receiving file n (Receives file t) ≡ true
+receives : (file : ℕ) (n : Name) (t : RxTurn) → has_in_hand t.stage ≡ true → holds_name n t.held ≡ true → is_receiving file n (Receives file t) ≡ true
 receives file n t h k =
-    ap (λ (b : Bool). b && has_frame t.stage && holds_name n t.held) (eq-eqb file file refl) ∙ ap (λ (b : Bool). b && holds_name n t.held) h ∙ k
+    ap (λ (b : Bool). b && has_in_hand t.stage && holds_name n t.held) (eq-eqb file file refl) ∙ ap (λ (b : Bool). b && holds_name n t.held) h ∙ k
 
 serving : (vhost file : ℕ) (n : Name) (a : Actor) → is_receiving file n a.doing ≡ true → is_about vhost 0 (current a.script) ≡ true → is_serving vhost file n a ≡ true
 serving vhost file n a x y = ap (λ (b : Bool). b && is_about vhost 0 (current a.script)) x ∙ y

@@ -20,7 +20,7 @@ use Rattle.vhost_dev.specs.Settings.{hdr_of}
 use Rattle.tap_world.specs.Setup.{Setup, op_of, frame_of}
 use Rattle.tap_world.specs.Line.{File, has_batch, is_full, is_gone, is_over, is_spent, first_that, front_place, in_batch, in_ring, last_that}
 use Rattle.tap_world.specs.LineSteps.{ready_front, changed}
-use Rattle.tap_world.specs.Guests.{Vhost, is_free, is_ring, turn_of, Guest}
+use Rattle.tap_world.specs.Guests.{Vhost, is_free, is_ring, turn_of, Guest, is_free_for}
 use Rattle.tap_steer.specs.Rules.{refuse}
 use Rattle.tap_world.specs.World.{Actor, Doing, World, name_of, newest, table}
 use Rattle.tap_world.specs.World.Doing.{Backs, Begun, Changes, Given, Hosts, Learns, Opened, Opens, Placed, Purges, Reads, Receives, Resizes, Routed, Shrinks, Teaches, Transmits, Withdrawn, Withdraws}
@@ -28,7 +28,7 @@ use Rattle.tap_world.specs.Effect.{Effect, only}
 use Rattle.tap_flow_key.specs.FlowKey.{hash}
 use Rattle.tap_world.specs.Effect.Onward.{Ends, Goes}
 use Rattle.tap_sound.proofs.Kit.{WhereSome, either, where_if, where_only, where_then}
-use Rattle.tap_sound.proofs.Steps.{held, or_else, rx_made, tx_made}
+use Rattle.tap_sound.proofs.Steps.{held, or_else, tx_made, rx_missed, rx_stepped, rx_taken}
 use Rattle.tap_frame.specs.declared.reading.BadFrame.{BadFrame}
 use Rattle.tap_ledger.specs.declared.error.TapErr.{TapErr}
 use Rattle.tap_steer.specs.declared.selection.Select.{Select}
@@ -356,7 +356,7 @@ calls s w me seen d c is = let P = Shape s w me seen d c in
 backs : (s : Setup) (w : World) (me seen : ℕ) (d : Doing) (c : Command) → AllShaped s w me seen d c (back.backs s w me seen d c)
 backs s w me seen (Backs x) (command.Backend vhost r file) = let P = Shape s w me seen (Backs x) (command.Backend vhost r file) in
     where_then P (at w.vhosts vhost) _ (λ v e1. where_then P (at w.guests v.guest) _
-    (λ g e2. where_if P _ _ (λ y. by_row P (back.back_call s w me seen x vhost r file v g.memory) (λ z e3. BackDrives x vhost r file v g refl refl e1 e2 y e3))))
+    (λ g e2. where_if P (is_free_for me r v) (back.back_call s w me seen x vhost r file v g.memory) (λ y. by_row P (back.back_call s w me seen x vhost r file v g.memory) (λ z e3. BackDrives x vhost r file v g refl refl e1 e2 y e3))))
 backs s w me seen d c = tt
 
 drive_row : (s : Setup) (w : World) (me seen : ℕ) (d : Doing) (c : Command) → AllShaped s w me seen d c (rows.drive_row s w me seen d c)
@@ -387,7 +387,7 @@ rx_change vhost file t st = tt
 rx_steps_on : (s : Setup) (w : World) (me seen : ℕ) (d : Doing) (vhost file : ℕ) (t : RxTurn) (v : Vhost) (g : Guest) → at w.vhosts vhost ≡ Some v → at w.guests v.guest ≡ Some g
     → RxWay me d file t v → AllShaped s w me seen d (command.RxTurn vhost) (rx_turns.rx_steps_on w me seen vhost file t v g.memory)
 rx_steps_on s w me seen d vhost file t v g a b way = where_then (Shape s w me seen d (command.RxTurn vhost)) (rx_step hand.Off (rx_turns.rx_state t v g.memory)) _
-    (λ made e. rx_made (Shape s w me seen d (command.RxTurn vhost)) w me seen vhost file v _ _ made
+    (λ made e. rx_stepped (Shape s w me seen d (command.RxTurn vhost)) w me seen vhost file t v made
     (λ f over e2 told. RxTurning vhost file t v g hand.Off made _ f over refl a b way e (rx_change vhost file t t.stage) told refl))
 
 tx_steps_on : (s : Setup) (w : World) (me seen : ℕ) (d : Doing) (vhost file : ℕ) (t : TxTurn) (told : List ChainText) (v : Vhost) (g : Guest) → at w.vhosts vhost ≡ Some v
@@ -428,8 +428,8 @@ hands s w me seen (Receives file t) (command.RxTurn vhost) can = let P = Shape s
     where_then P (at w.vhosts vhost) _ (λ v a. where_then P (at w.guests v.guest) _ (λ g b. where_then P (at w.files file) _
     (λ f e1. where_then P (changed (Takes vhost) f) _ (λ h e2. where_then P (rx_turns.front_frame s h) _
     (λ frame e3. where_then P (rx_step (hand.Got frame) (rx_turns.rx_state t v g.memory)) _
-    (λ made e. rx_made P w me seen vhost file v _ _ made
-    (λ x over e4 told. RxTurning vhost file t v g (hand.Got frame) made _ x over refl a b (inl refl) e tt told refl)))))))
+    (λ made e. rx_taken P w me seen vhost file v frame made
+    (λ over told. RxTurning vhost file t v g (hand.Got frame) made _ _ over refl a b (inl refl) e tt told refl)))))))
 hands s w me seen (Receives file t) c can = absurd (true≢false (sym can))
 hands s w me seen d c can = tt
 
@@ -437,8 +437,8 @@ finds_nothing : (s : Setup) (w : World) (me seen : ℕ) (d : Doing) (c : Command
 finds_nothing s w me seen (Receives file t) (command.RxTurn vhost) can = let P = Shape s w me seen (Receives file t) (command.RxTurn vhost) in
     where_then P (at w.vhosts vhost) _ (λ v a. where_then P (at w.guests v.guest) _ (λ g b. where_then P (at w.files file) _
     (λ f e1. where_then P (rx_step (hand.NotReady (front_place f)) (rx_turns.rx_state t v g.memory)) _
-    (λ made e. where_if P _ _ (λ q. rx_made P w me seen vhost file v _ _ made
-    (λ x over e4 told. RxTurning vhost file t v g (hand.NotReady (front_place f)) made _ x over refl a b (inl refl) e tt told refl))))))
+    (λ made e. rx_missed P w me seen vhost file v f made
+    (λ over told. RxTurning vhost file t v g (hand.NotReady (front_place f)) made _ _ over refl a b (inl refl) e tt told refl)))))
 finds_nothing s w me seen (Receives file t) c can = absurd (true≢false (sym can))
 finds_nothing s w me seen d c can = tt
 

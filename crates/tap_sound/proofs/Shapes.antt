@@ -1,4 +1,5 @@
 -- What an event changes has one of few shapes, whatever its row.
+use Rattle.tap_trace.specs.declared.turn.TurnText.{TurnText}
 use Rattle.std.proofs.Common.{◌≡◌, ◌⊎◌, ℕ, ◌+◌, List, [], ◌∷◌, true, false, Option, Some, None}
 use Rattle.std.specs.Prelude.{◌||◌, is_none, not}
 use Rattle.guest_mem.specs.Memory.{Contents}

@@ -20,7 +20,6 @@ use Rattle.tap_world.specs.declared.event.EventKind.TheVariants as event
 use Rattle.tap_world.specs.declared.event.Found.{Found}
 use Rattle.tap_world.specs.ByNumber.{at}
 use Rattle.tap_world.specs.Frames.{Front}
-use Rattle.vhost_dev.specs.Refusals.{number_refusal}
 use Rattle.vhost_dev.specs.Settings.{ring_at}
 use Rattle.std.proofs.Common.{true≢false}
 use Rattle.tap_frame.specs.declared.header.Hdr.{Hdr}
@@ -45,7 +44,7 @@ use Rattle.tap_world.specs.StepTable as tables
 use Rattle.tap_world.specs.StepTurns as rx_turns
 use Rattle.tap_world.specs.StepTransmits as tx_turns
 use Rattle.tap_sound.proofs.Kit.{WhereSome, where_if, where_only, where_then}
-use Rattle.tap_sound.proofs.Steps.{held, or_else, own, owning, publication, turning, not_refused, rx_made, tx_made}
+use Rattle.tap_sound.proofs.Steps.{held, or_else, own, owning, publication, turning, not_refused, tx_made, rx_missed, rx_stepped, rx_taken, setting, unsetting}
 use Rattle.tap_frame.specs.declared.reading.BadFrame.{BadFrame}
 use Rattle.tap_ledger.specs.declared.error.TapErr.{TapErr}
 use Rattle.tap_steer.specs.declared.selection.Select.{Select}
@@ -305,12 +304,12 @@ answered (Some e) x u h = absurd (some_refused e (not_refused (Some e) h))
 
 backs : (s : Setup) (w : World) (actor seen : ℕ) (d : Doing) (c : Command) → AllLead c (back.backs s w actor seen d c)
 backs s w actor seen (Backs x) (command.Backend vhost r None) = where_then (To (command.Backend vhost r None)) (at w.vhosts vhost) _ (λ v e1. where_then (To (command.Backend vhost r None)) (at w.guests v.guest) _
-    (λ g e2. where_if (To (command.Backend vhost r None)) _ _ (λ y. where_then (To (command.Backend vhost r None)) (back.refused_by (number_refusal r)) _
-    (λ told e3. unsets_back w actor seen vhost r v g.memory told (ring_at r v.settings).file (λ h. ring_there r (first_passed _ _ _ (not_refused _ (e3 ∙ ap (λ (o : Option Answer). Some o) h))))))))
+    (λ g e2. unsetting (To (command.Backend vhost r None)) s w actor seen x vhost r v g.memory
+    (λ told e3. unsets_back w actor seen vhost r v g.memory told (ring_at r v.settings).file (λ h. ring_there r (first_passed _ _ _ (not_refused _ (e3 ∙ ap (λ (o : Option Answer). Some o) h)))))))
 backs s w actor seen (Backs x) (command.Backend vhost r (Some file)) = where_then (To (command.Backend vhost r (Some file))) (at w.vhosts vhost) _
     (λ v e1. where_then (To (command.Backend vhost r (Some file))) (at w.guests v.guest) _
-    (λ g e2. where_if (To (command.Backend vhost r (Some file))) _ _ (λ y. where_then (To (command.Backend vhost r (Some file))) (back.back_answer _ _ _) _
-    (λ told e3. sets_back w actor seen vhost r file x v g.memory told (λ h. ring_there r (first_passed _ _ _ (answered _ _ _ (e3 ∙ ap (λ (o : Option Answer). Some o) h)).0))))))
+    (λ g e2. setting (To (command.Backend vhost r (Some file))) s w actor seen x vhost r file v g.memory
+    (λ told e3. sets_back w actor seen vhost r file x v g.memory told (λ h. ring_there r (first_passed _ _ _ (answered _ _ _ (e3 ∙ ap (λ (o : Option Answer). Some o) h)).0)))))
 backs s w actor seen d c = tt
 
 drive_row : (s : Setup) (w : World) (actor seen : ℕ) (d : Doing) (c : Command) → AllLead c (rows.drive_row s w actor seen d c)
@@ -340,7 +339,7 @@ tx_leads seen file t told f (Some e) c h = tt
 
 rx_steps_on : (w : World) (actor seen vhost file : ℕ) (t : RxTurn) (v : Vhost) (m : Contents) (c : Command) → is_rx_turn c ≡ true → AllLead c (rx_turns.rx_steps_on w actor seen vhost file t v m)
 rx_steps_on w actor seen vhost file t v m c h = where_then (To c) (rx_step hand.Off (rx_turns.rx_state t v m)) _
-    (λ made e. rx_made (To c) w actor seen vhost file v _ _ made (λ f over e2 told. rx_leads seen file made.0.turn f over c h))
+    (λ made e. rx_stepped (To c) w actor seen vhost file t v made (λ f over e2 told. rx_leads seen file made.0.turn f over c h))
 
 tx_steps_on : (w : World) (actor seen vhost file : ℕ) (t : TxTurn) (told : List ChainText) (v : Vhost) (m : Contents) (c : Command) → is_tx_turn c ≡ true
     → AllLead c (tx_turns.tx_steps_on w actor seen vhost file t told v m)
@@ -371,14 +370,14 @@ hands : (s : Setup) (w : World) (actor seen : ℕ) (d : Doing) (c : Command) →
 hands s w actor seen (Receives file t) c h = turning (To c) w c _ (λ vhost v m. where_then (To c) (at w.files file) _
     (λ f e1. where_then (To c) (changed (Takes vhost) f) _ (λ g e2. where_then (To c) (rx_turns.front_frame s g) _
     (λ frame e3. where_then (To c) (rx_step (hand.Got frame) (rx_turns.rx_state t v m)) _
-    (λ made e. rx_made (To c) w actor seen vhost file v _ _ made (λ x over e4 told. rx_leads seen file made.0.turn x over c h))))))
+    (λ made e. rx_taken (To c) w actor seen vhost file v frame made (λ over told. rx_leads seen file made.0.turn _ over c h))))))
 hands s w actor seen d c h = tt
 
 finds_nothing : (w : World) (actor seen : ℕ) (d : Doing) (c : Command) → can_be d c ≡ true → AllLead c (tx_turns.turn_finds_none w actor seen d c)
 finds_nothing w actor seen (Receives file t) c h = turning (To c) w c _ (λ vhost v m. where_then (To c) (at w.files file) _
     (λ f e1. where_then (To c) (rx_step (hand.NotReady (front_place f)) (rx_turns.rx_state t v m)) _
-    (λ made e. where_if (To c) _ _ (λ b. rx_made (To c) w actor seen vhost file v _ _ made
-    (λ x over e4 told. rx_leads seen file made.0.turn x over c h)))))
+    (λ made e. rx_missed (To c) w actor seen vhost file v f made
+    (λ over told. rx_leads seen file made.0.turn _ over c h))))
 finds_nothing w actor seen d c h = tt
 
 gives : (w : World) (seen : ℕ) (d : Doing) (c : Command) → can_be d c ≡ true → AllLead c (tx_turns.hosts_of_turn w seen d c)

@@ -1,4 +1,7 @@
 -- Each event that is allowed is one that is left to its command: all rows.
+use Rattle.tap_world.specs.declared.event.Found.TheVariants as found
+use Rattle.tap_world.specs.Line.{front_place, File, first_that, in_batch}
+use Rattle.tap_trace.specs.declared.turn.TurnText.{TurnText}
 use Rattle.std.proofs.Common.{◌≡◌, ℕ, List, [], ◌∷◌, Bool, true, false, Option, Some, None, inl, inr, refl, sym, subst}
 use Rattle.guest_mem.specs.Memory.{Contents}
 use Rattle.tap_frame.specs.Frame.{FrameValue}
@@ -22,10 +25,10 @@ use Rattle.tap_world.specs.ByNumber.{at}
 use Rattle.tap_world.specs.Grammar.{HasForm, Perhaps}
 use Rattle.tap_world.specs.Grammar.Grammar.{One, ◌⨾◌}
 use Rattle.tap_world.specs.Setup.{Setup, op_of}
-use Rattle.tap_world.specs.LineSteps.{changed}
+use Rattle.tap_world.specs.LineSteps.{changed, ready_front}
 use Rattle.tap_world.specs.LineSteps.Change.{Takes}
-use Rattle.tap_world.specs.Guests.{Vhost, vhost_answer}
-use Rattle.tap_world.specs.World.{Doing, World, HostFrame}
+use Rattle.tap_world.specs.Guests.{Vhost, vhost_answer, is_free_for}
+use Rattle.tap_world.specs.World.{Doing, World, HostFrame, table}
 use Rattle.tap_world.specs.World.Doing.{Given, Receives, Transmits}
 use Rattle.tap_world.specs.Effect.{Effect, OnFiles}
 use Rattle.tap_world.specs.Effect.Onward.{Goes}
@@ -39,11 +42,17 @@ use Rattle.tap_sound.proofs.Kit.{WhereSome, where_if, where_some, where_then, so
 use Rattle.tap_sound.proofs.Left.{left_of, rx_closes, rx_left, rx_takes, tx_left}
 use Rattle.tap_sound.proofs.Rows.{RxGoes, TxGives, TxGoes, rx_kind, rx_step_fits, tx_kind, tx_step_fits}
 use Rattle.tap_sound.proofs.Follows.{AllFollow, Follows, Onto}
-use Rattle.std.specs.Prelude.{option_map}
+use Rattle.std.specs.Prelude.{option_map, if◌then◌else◌, ◌&&◌, is_none}
 use Rattle.tap_trace.specs.declared.kind.Kind.{Kind}
 use Rattle.tap_trace.specs.declared.turn.TurnText.{TurnText}
 use Rattle.vring_turns.specs.declared.end.End.{End}
 use Rattle.vhost_dev.specs.declared.error.VhostErr.{VhostErr}
+use Rattle.tap_ledger.specs.declared.error.TapErr.{TapErr}
+use Rattle.tap_trace.specs.declared.answer.Answer.{Answer}
+use Rattle.vhost_dev.specs.Refusals.{number_refusal, ready_refusal}
+use Rattle.vhost_dev.specs.Settings.{ring_at}
+use Rattle.tap_steer.specs.Select as steer
+use Rattle.tap_world.specs.Effect.OnFiles.{NoFile, OnFile}
 
 -- ---- rows that several kinds of commands have
 
@@ -83,6 +92,46 @@ pub rx_made : (P : Effect → Type 0) (w : World) (actor seen vhost file : ℕ) 
     → WhereSome P (rx_turns.rx_event w actor seen vhost file v files o made)
 rx_made P w actor seen vhost file v files o made h =
     where_then P o _ (λ f e. where_then P (rx_turns.over_told (rx_turns.rx_over made.0.turn.stage)) _ (λ over k. h f over e k))
+
+pub rx_stepped : (P : Effect → Type 0) (w : World) (actor seen vhost file : ℕ) (t : RxTurn) (v : Vhost) (made : RxState × Act)
+    → ((f : Found) (over : Option TurnText) → rx_turns.found_by (rx_turns.kind_of vhost 0 made.1) (rx_turns.held_name t.held) ≡ Some f
+    → rx_turns.over_told (rx_turns.rx_over made.0.turn.stage) ≡ Some over
+    → P (rx_turns.rx_effect w actor seen vhost file v (rx_turns.rx_change vhost file t t.stage) f over made))
+    → WhereSome P (rx_turns.rx_event w actor seen vhost file v (rx_turns.rx_change vhost file t t.stage)
+    (rx_turns.found_by (rx_turns.kind_of vhost 0 made.1) (rx_turns.held_name t.held)) made)
+rx_stepped P w actor seen vhost file t v made h =
+    rx_made P w actor seen vhost file v (rx_turns.rx_change vhost file t t.stage) (rx_turns.found_by (rx_turns.kind_of vhost 0 made.1) (rx_turns.held_name t.held)) made h
+
+pub rx_taken : (P : Effect → Type 0) (w : World) (actor seen vhost file : ℕ) (v : Vhost) (frame : FrameValue) (made : RxState × Act)
+    → ((over : Option TurnText) → rx_turns.over_told (rx_turns.rx_over made.0.turn.stage) ≡ Some over
+    → P (rx_turns.rx_effect w actor seen vhost file v (OnFile file (Takes vhost)) (found.Moved frame.name) over made))
+    → WhereSome P (rx_turns.rx_event w actor seen vhost file v (OnFile file (Takes vhost)) (Some (found.Moved frame.name)) made)
+rx_taken P w actor seen vhost file v frame made h = where_then P (rx_turns.over_told (rx_turns.rx_over made.0.turn.stage)) _ (λ over k. h over k)
+
+pub rx_missed : (P : Effect → Type 0) (w : World) (actor seen vhost file : ℕ) (v : Vhost) (f : File) (made : RxState × Act)
+    → ((over : Option TurnText) → rx_turns.over_told (rx_turns.rx_over made.0.turn.stage) ≡ Some over
+    → P (rx_turns.rx_effect w actor seen vhost file v NoFile (found.NotReady (front_place f)) over made))
+    → WhereSome P (if is_none (first_that in_batch f.line) && is_none (ready_front f.line)
+    then rx_turns.rx_event w actor seen vhost file v NoFile (Some (found.NotReady (front_place f))) made else None)
+rx_missed P w actor seen vhost file v f made h =
+    where_if P (is_none (first_that in_batch f.line) && is_none (ready_front f.line)) (rx_turns.rx_event w actor seen vhost file v NoFile (Some (found.NotReady (front_place f))) made)
+    (λ b. where_then P (rx_turns.over_told (rx_turns.rx_over made.0.turn.stage)) _ (λ over k. h over k))
+
+-- a backend's Drive, by what it is told
+pub unsetting : (P : Effect → Type 0) (s : Setup) (w : World) (actor seen : ℕ) (x : Option TapErr) (vhost r : ℕ) (v : Vhost) (m : Contents)
+    → ((told : Option Answer) → back.refused_by (number_refusal r) ≡ Some told → P (back.unsets_back w actor seen vhost r v m told (ring_at r v.settings).file))
+    → WhereSome P (if is_free_for actor r v then back.back_call s w actor seen x vhost r None v m else None)
+unsetting P s w actor seen x vhost r v m h = where_if P (is_free_for actor r v) (back.back_call s w actor seen x vhost r None v m)
+    (λ b. where_then P (back.refused_by (number_refusal r)) _ (λ told e. h told e))
+
+abbrev pub set_answer : Setup → World → Option TapErr → ℕ → ℕ → Vhost → Contents → Option (Option Answer)
+set_answer s w x r file v m = back.back_answer (ready_refusal r m v.settings) x (back.unfit_for (steer.shape_of (table s w) file) v.settings)
+
+pub setting : (P : Effect → Type 0) (s : Setup) (w : World) (actor seen : ℕ) (x : Option TapErr) (vhost r file : ℕ) (v : Vhost) (m : Contents)
+    → ((told : Option Answer) → set_answer s w x r file v m ≡ Some told → P (back.sets_back w actor seen vhost r file x v m told))
+    → WhereSome P (if is_free_for actor r v then back.back_call s w actor seen x vhost r (Some file) v m else None)
+setting P s w actor seen x vhost r file v m h = where_if P (is_free_for actor r v) (back.back_call s w actor seen x vhost r (Some file) v m)
+    (λ b. where_then P (set_answer s w x r file v m) _ (λ told e. h told e))
 
 pub tx_made : (P : Effect → Type 0) (w : World) (actor seen vhost file : ℕ) (told : List ChainText) (v : Vhost) (made : TxState × Act)
     → ((step : Kind) (over : Option TurnText) → rx_turns.kind_of vhost 1 made.1 ≡ Some step → rx_turns.over_told (tx_turns.tx_over made.0.turn.stage) ≡ Some over
@@ -127,7 +176,7 @@ rx_follows w actor n seen file t c =
     let P : Effect → Type 0 = Follows (Receives file t) c (rx_kind t.stage) in
     turning P w c (tx_turns.goes_on w actor seen (Receives file t))
     (λ vhost v m. where_then P (rx_step hand.Off (rx_turns.rx_state t v m)) _
-    (λ made e. rx_made P w actor seen vhost file v _ _ made (λ f over e2 told. rx_onto file file seen t made.0.turn c (rx_kind t.stage) f made.0.turn.stage refl
+    (λ made e. rx_stepped P w actor seen vhost file t v made (λ f over e2 told. rx_onto file file seen t made.0.turn c (rx_kind t.stage) f made.0.turn.stage refl
     (where_some (λ (x : RxState × Act). RxGoes t.stage (rx_kind t.stage) x.0.turn.stage) _ made (rx_step_fits (rx_turns.rx_state t v m)) e) over told)))
 
 -- a turn that looks for a frame
@@ -147,7 +196,7 @@ hand_follows s w actor seen file t c is =
     let P : Effect → Type 0 = Follows (Receives file t) c event.Hand in
     turning P w c _ (λ vhost v m. where_then P (at w.files file) _ (λ f e1. where_then P (changed (Takes vhost) f) _ (λ g e2. where_then P (rx_turns.front_frame s g) _
     (λ frame e3. where_then P (rx_step (hand.Got frame) (rx_turns.rx_state t v m)) _
-    (λ made e. rx_made P w actor seen vhost file v _ _ made (λ x over e4 told. rx_onto file file seen t made.0.turn c event.Hand x made.0.turn.stage refl
+    (λ made e. rx_taken P w actor seen vhost file v frame made (λ over told. rx_onto file file seen t made.0.turn c event.Hand _ made.0.turn.stage refl
     (where_some (λ (x : RxState × Act). RxGoes t.stage event.Hand x.0.turn.stage) _ made (rx_got frame (rx_turns.rx_state t v m) t.stage refl is) e) over told))))))
 
 pub none_follows : (w : World) (actor seen file : ℕ) (t : RxTurn) (c : Command) → t.stage ≡ rx.Hand
@@ -155,8 +204,8 @@ pub none_follows : (w : World) (actor seen file : ℕ) (t : RxTurn) (c : Command
 none_follows w actor seen file t c is =
     let P : Effect → Type 0 = Follows (Receives file t) c event.NotReady in
     turning P w c _ (λ vhost v m. where_then P (at w.files file) _ (λ f e1. where_then P (rx_step (hand.NotReady _) (rx_turns.rx_state t v m)) _
-    (λ made e. where_if P _ _ (λ b. rx_made P w actor seen vhost file v _ _ made (λ x over e4 told. rx_onto file file seen t made.0.turn c event.NotReady x made.0.turn.stage refl
-    (where_some (λ (x : RxState × Act). RxGoes t.stage event.NotReady x.0.turn.stage) _ made (rx_none _ (rx_turns.rx_state t v m) t.stage is) e) over told)))))
+    (λ made e. rx_missed P w actor seen vhost file v f made (λ over told. rx_onto file file seen t made.0.turn c event.NotReady _ made.0.turn.stage refl
+    (where_some (λ (x : RxState × Act). RxGoes t.stage event.NotReady x.0.turn.stage) _ made (rx_none _ (rx_turns.rx_state t v m) t.stage is) e) over told))))
 
 tx_onto : (file file' seen : ℕ) (t u : TxTurn) (told told' : List ChainText) (c : Command) (k : EventKind) (f : Found) (st : TxStage) → u.stage ≡ st
     → TxGoes t.stage k u.stage → (over : Option TurnText) → rx_turns.over_told (tx_turns.tx_over st) ≡ Some over

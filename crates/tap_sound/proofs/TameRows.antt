@@ -18,7 +18,6 @@ use Rattle.tap_world.specs.declared.event.EventKind.{EventKind}
 use Rattle.tap_world.specs.declared.event.EventKind.TheVariants as event
 use Rattle.tap_world.specs.declared.event.Found.{Found}
 use Rattle.tap_world.specs.ByNumber.{at}
-use Rattle.vhost_dev.specs.Refusals.{number_refusal}
 use Rattle.vhost_dev.specs.Settings.{ring_at}
 use Rattle.std.proofs.Common.{true≢false}
 use Rattle.tap_world.specs.Setup.{Setup, frame_of}
@@ -38,7 +37,7 @@ use Rattle.tap_world.specs.StepRing as ring
 use Rattle.tap_world.specs.StepTurns as rx_turns
 use Rattle.tap_world.specs.StepTransmits as tx_turns
 use Rattle.tap_sound.proofs.Kit.{either, where_if, where_only, where_then}
-use Rattle.tap_sound.proofs.Steps.{held, or_else, owning, turning, rx_made, tx_made}
+use Rattle.tap_sound.proofs.Steps.{held, or_else, owning, turning, tx_made, rx_missed, rx_stepped, rx_taken, setting, unsetting}
 use Rattle.tap_world.specs.LineSteps.{changed}
 use Rattle.tap_world.specs.LineSteps.Change.{Takes}
 use Rattle.tap_world.specs.Effect.{OnFiles}
@@ -137,9 +136,9 @@ unsets_back w b z actor seen vhost r v m None (Some file) le = (λ e. refl, tt, 
 
 backs : (s : Setup) (w : World) (b z : Bool) (actor seen : ℕ) (d : Doing) (c : Command) → IsBelow w seen → AllTame w b z (back.backs s w actor seen d c)
 backs s w b z actor seen (Backs x) (command.Backend vhost r None) le = where_then (IsTame w b z) (at w.vhosts vhost) _ (λ v e1. where_then (IsTame w b z) (at w.guests v.guest) _
-    (λ g e2. where_if (IsTame w b z) _ _ (λ y. where_then (IsTame w b z) (back.refused_by (number_refusal r)) _ (λ told e3. unsets_back w b z actor seen vhost r v g.memory told (ring_at r v.settings).file le))))
+    (λ g e2. unsetting (IsTame w b z) s w actor seen x vhost r v g.memory (λ told e3. unsets_back w b z actor seen vhost r v g.memory told (ring_at r v.settings).file le)))
 backs s w b z actor seen (Backs x) (command.Backend vhost r (Some file)) le = where_then (IsTame w b z) (at w.vhosts vhost) _ (λ v e1. where_then (IsTame w b z) (at w.guests v.guest) _
-    (λ g e2. where_if (IsTame w b z) _ _ (λ y. where_then (IsTame w b z) (back.back_answer _ _ _) _ (λ told e3. sets_back w b z actor seen vhost r file x v g.memory told le))))
+    (λ g e2. setting (IsTame w b z) s w actor seen x vhost r file v g.memory (λ told e3. sets_back w b z actor seen vhost r file x v g.memory told le)))
 backs s w b z actor seen d c le = tt
 
 drive_row : (s : Setup) (w : World) (b z : Bool) (actor seen : ℕ) (d : Doing) (c : Command) → IsBelow w seen → AllTame w b z (rows.drive_row s w actor seen d c)
@@ -180,7 +179,7 @@ rx_change vhost file t st = (tt, tt)
 
 rx_steps_on : (w : World) (b z : Bool) (actor seen vhost file : ℕ) (t : RxTurn) (v : Vhost) (m : Contents) → IsBelow w seen → AllTame w b z (rx_turns.rx_steps_on w actor seen vhost file t v m)
 rx_steps_on w b z actor seen vhost file t v m le = where_then (IsTame w b z) (rx_step hand.Off (rx_turns.rx_state t v m)) _
-    (λ made e. rx_made (IsTame w b z) w actor seen vhost file v _ _ made
+    (λ made e. rx_stepped (IsTame w b z) w actor seen vhost file t v made
     (λ f over e2 told. rx_event w b z actor seen vhost file v (rx_turns.rx_change vhost file t t.stage) f over made (rx_change vhost file t t.stage).0 (rx_change vhost file t t.stage).1 le))
 
 tx_steps_on : (w : World) (b z : Bool) (actor seen vhost file : ℕ) (t : TxTurn) (told : List ChainText) (v : Vhost) (m : Contents) → IsBelow w seen
@@ -210,15 +209,15 @@ hands : (s : Setup) (w : World) (b z : Bool) (actor seen : ℕ) (d : Doing) (c :
 hands s w b z actor seen (Receives file t) c le = turning (IsTame w b z) w c _ (λ vhost v m. where_then (IsTame w b z) (at w.files file) _
     (λ f e1. where_then (IsTame w b z) (changed (Takes vhost) f) _ (λ g e2. where_then (IsTame w b z) (rx_turns.front_frame s g) _
     (λ frame e3. where_then (IsTame w b z) (rx_step (hand.Got frame) (rx_turns.rx_state t v m)) _
-    (λ made e. rx_made (IsTame w b z) w actor seen vhost file v _ _ made
-    (λ f over e4 told. rx_event w b z actor seen vhost file v (OnFile file (Takes vhost)) f over made tt tt le))))))
+    (λ made e. rx_taken (IsTame w b z) w actor seen vhost file v frame made
+    (λ over told. rx_event w b z actor seen vhost file v (OnFile file (Takes vhost)) (found.Moved frame.name) over made tt tt le))))))
 hands s w b z actor seen d c le = tt
 
 finds_nothing : (w : World) (b z : Bool) (actor seen : ℕ) (d : Doing) (c : Command) → IsBelow w seen → AllTame w b z (tx_turns.turn_finds_none w actor seen d c)
 finds_nothing w b z actor seen (Receives file t) c le = turning (IsTame w b z) w c _ (λ vhost v m. where_then (IsTame w b z) (at w.files file) _
     (λ f e1. where_then (IsTame w b z) (rx_step (hand.NotReady (front_place f)) (rx_turns.rx_state t v m)) _
-    (λ made e. where_if (IsTame w b z) _ _ (λ b2. rx_made (IsTame w b z) w actor seen vhost file v NoFile (Some (found.NotReady (front_place f))) made
-    (λ x over e2 told. rx_event w b z actor seen vhost file v NoFile x over made tt tt le)))))
+    (λ made e. rx_missed (IsTame w b z) w actor seen vhost file v f made
+    (λ over told. rx_event w b z actor seen vhost file v NoFile (found.NotReady (front_place f)) over made tt tt le))))
 finds_nothing w b z actor seen d c le = tt
 
 gives : (w : World) (b z : Bool) (seen : ℕ) (d : Doing) (c : Command) → IsBelow w seen → AllTame w b z (tx_turns.hosts_of_turn w seen d c)

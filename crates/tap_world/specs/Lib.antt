@@ -25,5 +25,7 @@ pub mod SoundActors
 pub mod SoundTable
 pub mod SoundNames
 pub mod Sound
+pub mod Waiting
+pub mod Steady
 pub mod Laws
 pub mod Examples

@@ -8,7 +8,7 @@ use Rattle.tap_frame.specs.declared.name.Name.{Name}
 use Rattle.tap_frame.specs.Frame.{FrameValue}
 use Rattle.tap_ledger.specs.declared.fate.Fate.TheVariants as fate
 use Rattle.tap_steer.specs.Table.{Table, file_at}
-use Rattle.vring_turns.specs.RxLine.{has_frame}
+use Rattle.vring_turns.specs.Stage.{has_in_hand}
 use Rattle.tap_ground.specs.Options.{◌>>=◌}
 use Rattle.tap_world.specs.Each.{EachActor, EachFile, EachVhost}
 use Rattle.tap_world.specs.Setup.{Setup}
@@ -110,7 +110,7 @@ abbrev pub holds_name : Name → Option FrameValue → Bool
 holds_name n held = option_map_or (λ (x : FrameValue). same_name x.name n) held false
 
 abbrev pub is_receiving : ℕ → Name → Doing → Bool
-is_receiving file n (Receives other t) = other == file && has_frame t.stage && holds_name n t.held
+is_receiving file n (Receives other t) = other == file && has_in_hand t.stage && holds_name n t.held
 is_receiving file n doing = false
 
 -- an actor is at a worker's receive turn on the file, with this frame in hand
