@@ -10,10 +10,10 @@
 mod area;
 mod driver;
 mod error;
-mod fields;
 mod free;
 mod laws;
 mod pieces;
+mod read;
 mod write;
 
 pub use crate::driver::Driver;

@@ -9,6 +9,7 @@ use Rattle.vring_split.specs.Split.{number_of_fault}
 use Rattle.vring_walk.specs.declared.walk.Fetched.{Fetched}
 use Rattle.vring_walk.specs.declared.walk.Fetched.TheVariants.{Chain, Nothing, Bad, Crowded}
 use Rattle.vring_walk.specs.Fetched.{fetched}
+pub use Rattle.vring_walk.specs.Spread.{bytes_in}
 use Rattle.vhost_queue.specs.declared.done.Done.{Done}
 use Rattle.vhost_queue.specs.Positions.{Positions, before, served, rewound, with_done}
 use Rattle.vhost_queue.specs.Queue.{Queue}
@@ -31,11 +32,6 @@ pub record Made : Type 0 where
   pub ring : Ring
   pub memory : Contents
   pub told : Act
-
--- how many bytes segments have
-abbrev pub bytes_in : List Segment → ℕ
-bytes_in [] = 0
-bytes_in (s ∷ ss) = s.len + bytes_in ss
 
 -- the segments of chains, one after the other
 abbrev pub segments_of : List Gathered → List Segment
