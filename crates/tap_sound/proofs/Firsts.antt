@@ -2,7 +2,6 @@
 use Rattle.std.proofs.Common.{◌≡◌, ℕ, List, [], ◌∷◌, Bool, true, false, inl, inr, refl}
 use Rattle.std.specs.Prelude.{if◌then◌else◌, is_some}
 use Rattle.std.specs.Option.{option_map_or}
-use Rattle.tap_frame.specs.Frame.{FrameValue}
 use Rattle.tap_steer.specs.Select.{learns}
 use Rattle.vring_turns.specs.RxTurn.{rx_begun}
 use Rattle.vhost_dev.specs.Settings.{hdr_of}
@@ -17,7 +16,7 @@ use Rattle.tap_world.specs.Grammar.{HasForm, Perhaps}
 use Rattle.tap_world.specs.Grammar.Grammar.{One, ◌⨾◌}
 use Rattle.tap_world.specs.Commands.{form_of}
 use Rattle.tap_world.specs.Setup.{Numbered, Setup}
-use Rattle.tap_world.specs.World.{Doing, World, name_of, table}
+use Rattle.tap_world.specs.World.{Doing, World, name_of, table, HostFrame}
 use Rattle.tap_world.specs.World.Doing.{Begun, Given, Teaches, Transmits}
 use Rattle.tap_world.specs.Effect.{Effect}
 use Rattle.tap_world.specs.Scripts.{is_kind, next_kind, turn_first}
@@ -135,7 +134,7 @@ begun_follows s w actor seen script n (command.Backend vhost r file) k e =
     (first_look s w actor seen script n Begun (command.Backend vhost r file) tt refl)
 
 -- Look, of a transmit turn that gave its frame to the host
-pub given_follows : (s : Setup) (w : World) (actor seen : ℕ) (script : List Numbered) (n file : ℕ) (t : TxTurn) (told : List ChainText) (f : FrameValue) (c : Command)
+pub given_follows : (s : Setup) (w : World) (actor seen : ℕ) (script : List Numbered) (n file : ℕ) (t : TxTurn) (told : List ChainText) (f : HostFrame) (c : Command)
     → AllFollow (Given file t told f) c event.Look (rows.look_row s w actor (as_doing seen script (Given file t told f)) n c)
 given_follows s w actor seen script n own_file t told f (command.TxTurn vhost) = go (learns (table s w) own_file)
   where

@@ -27,12 +27,13 @@ use Rattle.tap_world.specs.Effect.{Effect, Ending, OnFiles, Onward, actor_after,
 use Rattle.tap_world.specs.Effect.OnFiles.{NoFile, OnFile}
 use Rattle.tap_world.specs.Scripts.{is_kind, next_kind}
 use Rattle.tap_world.specs.Step.{row, step}
+use Rattle.tap_world.specs.Each.{EachActor, EachFile}
 use Rattle.tap_world.specs.SoundActors.{CanBe, can_be}
 use Rattle.tap_world.specs.SoundRings.{is_about}
-use Rattle.vring_turns.specs.RxLine.{has_frame}
-use Rattle.tap_world.specs.Sound.{EachActor, EachFile, HandIsOwners, InThreeParts, front_name, holds_name, is_receiving, is_serving}
+use Rattle.vring_turns.specs.Stage.{has_in_hand}
+use Rattle.tap_world.specs.Sound.{HandIsOwners, InThreeParts, front_name, holds_name, is_receiving, is_serving}
 use Rattle.tap_world.specs.Runs.{begins, has_ended, opening, run, run_phases}
-use Rattle.tap_sound.specs.Reached.{IsReached}
+use Rattle.tap_sound.specs.Worlds.{IsWorldOf}
 use Rattle.tap_sound.proofs.Kit.{some_same, then_some, where_some}
 use Rattle.tap_sound.proofs.Scripts.{effect_actors, ended_each}
 use Rattle.tap_sound.proofs.Kept.{effect_files, parts_are_kept}
@@ -72,10 +73,10 @@ serves_of vhost file n (x ∷ xs) (suc i) a at is = go (is_serving vhost file n 
     go false h = h
 
 -- a turn on the file with this frame in hand
-receiving : (file : ℕ) (n : Name) (d : Doing) → is_receiving file n d ≡ true → (t : RxTurn) × (d ≡ Receives file t) × (has_frame t.stage ≡ true) × (holds_name n t.held ≡ true)
+receiving : (file : ℕ) (n : Name) (d : Doing) → is_receiving file n d ≡ true → (t : RxTurn) × (d ≡ Receives file t) × (has_in_hand t.stage ≡ true) × (holds_name n t.held ≡ true)
 receiving file n (Receives other t) e =
-    let a = both (other == file && has_frame t.stage) (holds_name n t.held) e in
-    let b = both (other == file) (has_frame t.stage) a.0 in (
+    let a = both (other == file && has_in_hand t.stage) (holds_name n t.held) e in
+    let b = both (other == file) (has_in_hand t.stage) a.0 in (
       t,
       ap (λ k. Receives k t) (⊎_elim (λ p. p.1) (λ p. absurd (true≢false (sym b.0 ∙ p.0))) (eqb_tells other file)),
       b.1,
@@ -83,9 +84,9 @@ receiving file n (Receives other t) e =
     )
 receiving file n d e = absurd (true≢false (sym e))
 
-receives : (file : ℕ) (n : Name) (t : RxTurn) → has_frame t.stage ≡ true → holds_name n t.held ≡ true → is_receiving file n (Receives file t) ≡ true
+receives : (file : ℕ) (n : Name) (t : RxTurn) → has_in_hand t.stage ≡ true → holds_name n t.held ≡ true → is_receiving file n (Receives file t) ≡ true
 receives file n t h k =
-    ap (λ (b : Bool). b && has_frame t.stage && holds_name n t.held) (eq-eqb file file refl) ∙ ap (λ (b : Bool). b && holds_name n t.held) h ∙ k
+    ap (λ (b : Bool). b && has_in_hand t.stage && holds_name n t.held) (eq-eqb file file refl) ∙ ap (λ (b : Bool). b && holds_name n t.held) h ∙ k
 
 serving : (vhost file : ℕ) (n : Name) (a : Actor) → is_receiving file n a.doing ≡ true → is_about vhost 0 (current a.script) ≡ true → is_serving vhost file n a ≡ true
 serving vhost file n a x y = ap (λ (b : Bool). b && is_about vhost 0 (current a.script)) x ∙ y
@@ -345,8 +346,9 @@ phases_held s number (p ∷ ps) (es ∷ more) w v e h =
     phases_held s (number + 1) ps more t.0 v c.1
     (run_held s es (begins number p w) t.0 t.1 (begins_held number p w h.0 h.1), λ i a at_. rest i a at_ (ended_each t.0.actors i a c.0 at_))
 
-pub hand_in_runs : (s : Scenario) (w : World) → IsReached s w → EachFile w (HandIsOwners w)
+pub hand_in_runs : (s : Scenario) (w : World) → IsWorldOf s w → EachFile w (HandIsOwners w)
 hand_in_runs s w r =
-    let before = phases_held (setup_of s) 0 (take r.ended s.phases) r.events (opening (setup_of s)) r.before r.is_before
+    let before = phases_held (setup_of s) 0 (take r.ended s.phases) r.is_before.events (opening (setup_of s)) r.before r.is_before.is
     (opening_held (setup_of s), λ i a at_. absurd (no_actor i a at_)) in
-    (run_held (setup_of s) r.so_far (begins r.ended r.phase r.before) w r.is (begins_held r.ended r.phase r.before before.0 before.1)).2
+    ⊎_elim (λ is. subst (λ (q : World). EachFile q (HandIsOwners q)) (sym is) before.0.2)
+    (λ p. (run_held (setup_of s) p.so_far (begins r.ended p.phase r.before) w p.is (begins_held r.ended p.phase r.before before.0 before.1)).2) r.now

@@ -19,10 +19,13 @@ pub mod Scripts
 pub mod Step
 pub mod Runs
 pub mod Project
+pub mod Each
 pub mod SoundRings
 pub mod SoundActors
 pub mod SoundTable
 pub mod SoundNames
 pub mod Sound
+pub mod Waiting
+pub mod Steady
 pub mod Laws
 pub mod Examples

@@ -1,5 +1,5 @@
 -- This project's own: what a scenario lays down for good.
-use Rattle.std.specs.Prelude.{ℕ, ◌+◌, ◌==◌, if◌then◌else◌, List, [], ◌∷◌, ◌++◌, map, filter, fold, replicate, flat_map, length, min, slice_get, slice_set, take, Option, Some, None, unwrap_or, option_map}
+use Rattle.std.specs.Prelude.{ℕ, ◌+◌, ◌<◌, ◌==◌, if◌then◌else◌, List, [], ◌∷◌, ◌++◌, map, filter, fold, replicate, flat_map, length, min, slice_get, slice_set, take, Option, Some, None, IfSome, IsSome, unwrap_or, option_map}
 use Rattle.std.specs.Option.{option_map_or}
 use Rattle.guest_mem.specs.declared.region.Region.{Region}
 use Rattle.tap_frame.specs.declared.name.Name.{Name}
@@ -9,6 +9,7 @@ use Rattle.tap_steer.specs.declared.operation.Op.TheVariants as op
 use Rattle.tap_steer.specs.Table.{Table, first}
 use Rattle.scen_words.specs.declared.command.Command.{Command}
 use Rattle.scen_words.specs.declared.command.Command.TheVariants as command
+use Rattle.scen_words.specs.Commands.{file_of, guest_of, program_of, vhost_of}
 use Rattle.scen_words.specs.declared.declaration.Declaration.{Declaration}
 use Rattle.scen_words.specs.declared.declaration.Declaration.TheVariants as declaration
 use Rattle.scen_text.specs.declared.scenario.Line.{Line}
@@ -107,6 +108,21 @@ op_of s (command.Filter file program) = Some (op.Filter file (place_of s program
 op_of s (command.Tick now) = Some (op.Tick now)
 op_of s (command.Resize file capacity) = Some (op.Resize file capacity)
 op_of s other = None
+
+-- the name that a command names, by its number
+abbrev pub device_in : Command → Option ℕ
+device_in (command.SetIff file device flags) = Some device
+device_in (command.Send device hdr bytes) = Some device
+device_in other = None
+
+-- What a command names is there: its file, guest and vhost are declared, its program has a place among the programs, and
+-- the name is one of the scenario's.
+pub record NamesDeclared (s : Setup) (c : Command) : Type 0 where
+  pub file : IfSome (file_of c) (λ file. IsSome (at s.files file))
+  pub guest : IfSome (guest_of c) (λ guest. IsSome (at s.guests guest))
+  pub vhost : IfSome (vhost_of c) (λ vhost. IsSome (at s.vhosts vhost))
+  pub program : IfSome (program_of c) (λ program. place_among program s.programs < length s.programs)
+  pub device : IfSome (device_in c) (λ device. device < length s.names)
 
 -- ---- frames
 

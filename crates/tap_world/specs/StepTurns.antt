@@ -16,8 +16,7 @@ use Rattle.vring_turns.specs.declared.end.End.{End}
 use Rattle.vring_turns.specs.declared.end.End.TheVariants as end
 use Rattle.vring_turns.specs.declared.stage.RxStage.{RxStage}
 use Rattle.vring_turns.specs.declared.stage.RxStage.TheVariants as rx
-use Rattle.vring_turns.specs.Ends.{first_answer}
-use Rattle.vring_turns.specs.RxRun.{needed_by}
+use Rattle.vring_turns.specs.Stage.{first_answer, need_at}
 use Rattle.vring_turns.specs.RxTurn.{RxState, RxTurn, overrun, rx_begun, rx_step}
 use Rattle.scen_words.specs.declared.command.Command.{Command}
 use Rattle.scen_words.specs.declared.command.Command.TheVariants as command
@@ -180,7 +179,7 @@ finds_no_frame w actor seen vhost file t v m = do
 abbrev pub rx_change : ℕ → ℕ → RxTurn → RxStage → OnFiles
 rx_change vhost file t rx.Out = OnFile file (Leaves (Some vhost) fate.Guest)
 rx_change vhost file t (rx.Discard had) =
-    OnFile file (Leaves (Some vhost) (overrun t.mergeable (needed_by t.header t.held) had))
+    OnFile file (Leaves (Some vhost) (overrun t.mergeable (need_at t.header t.held) had))
 rx_change vhost file t (rx.PutBack e) = OnFile file (PutsBack vhost)
 rx_change vhost file t other = NoFile
 
