@@ -57,8 +57,8 @@ accepted_by actor n (Disowned file) = []
 accepted_by actor n (Released file) = []
 accepted_by actor n (Receives file t) = []
 
--- the one that is accepted, and is still to be dropped, placed or given to the host: a send's with a row, a write's, and
--- the one that a transmit turn is to give
+-- the one that is accepted, and is still to be dropped, placed or given to the host: a send's with a row, a write's,
+-- and the one that a transmit turn is to give
 abbrev pub awaited : ℕ → ℕ → Doing → Option Name
 awaited actor n (Routed file epoch len) = Some (name_of actor n)
 awaited actor n (Hosts file ether learns) = Some (name_of actor n)
