@@ -8,8 +8,8 @@ use Rattle.tap_frame.specs.declared.name.Name.{Name}
 use Rattle.tap_frame.specs.Frame.{FrameValue}
 use Rattle.tap_ledger.specs.declared.fate.Fate.TheVariants as fate
 use Rattle.tap_steer.specs.Table.{Table, file_at}
-use Rattle.vring_turns.specs.Stage.{has_in_hand}
 use Rattle.tap_ground.specs.Options.{◌>>=◌}
+use Rattle.vring_turns.specs.Stage.{has_in_hand}
 use Rattle.tap_world.specs.Each.{EachActor, EachFile, EachVhost}
 use Rattle.tap_world.specs.Setup.{Setup}
 use Rattle.tap_world.specs.Line.{Entry, File, Standing, claimed, count, first_that, freed, in_batch, is_empty, is_kept}
