@@ -2,7 +2,7 @@
 use Rattle.std.proofs.Common.{◌≡◌, ℕ, ◌+◌, List, [], ◌∷◌, ◌++◌, length, Bool, true, false, Option, Some, None, refl, sym, ap, ◌∙◌, subst, true≢false}
 use Rattle.std.specs.Prelude.{if◌then◌else◌, ◌&&◌, is_none}
 use Rattle.std.specs.Option.{option_map_or}
-use Rattle.guest_mem.specs.Memory.{Contents}
+use Rattle.guest_mem.specs.Memory.{Contents, with_le16}
 use Rattle.vring_split.specs.declared.layout.Layout.{Layout}
 use Rattle.vhost_dev.specs.declared.error.VhostErr.{VhostErr}
 use Rattle.vhost_dev.specs.Settings.{RingSettings, Settings, at_ring, is_rx, ring_at, ring_of, with_ring}
@@ -45,7 +45,7 @@ filled_regions l [] bytes m = refl
 filled_regions l (d ∷ ds) bytes m = filled_regions l ds _ _
 
 area_regions : (addr number : ℕ) (m : Contents) → (area.with_field addr number m).regions ≡ m.regions
-unfolding area.with_field
+unfolding with_le16
 area_regions addr number m = refl
 
 offered_regions : (l : Layout) (place head : ℕ) (m : Contents) → (offered l place head m).regions ≡ m.regions
