@@ -2,7 +2,7 @@
 use Rattle.std.proofs.Common.{◌≡◌, ℕ, ◌+◌, List, [], ◌∷◌, ◌++◌, length, Bool, true, false, Option, Some, None, refl, sym, ap, ◌∙◌, subst, true≢false}
 use Rattle.std.specs.Prelude.{if◌then◌else◌, ◌&&◌, is_none}
 use Rattle.std.specs.Option.{option_map_or}
-use Rattle.guest_mem.specs.Memory.{Contents}
+use Rattle.guest_mem.specs.Memory.{Contents, with_le16}
 use Rattle.vring_split.specs.declared.layout.Layout.{Layout}
 use Rattle.vhost_dev.specs.declared.error.VhostErr.{VhostErr}
 use Rattle.vhost_dev.specs.Settings.{RingSettings, Settings, at_ring, is_rx, ring_at, ring_of, with_ring}
@@ -30,6 +30,7 @@ use Rattle.tap_world.specs.StepControl as control
 use Rattle.tap_sound.proofs.Kit.{WhereSome, some_same, then_some, where_some}
 use Rattle.tap_trace.specs.declared.causes.DriveText.{DriveText}
 use Rattle.tap_trace.specs.declared.answer.Answer.{Answer}
+use Rattle.vhost_dev.specs.Refusals.{addr_refusal, base_refusal, features_refusal, num_refusal, number_refusal}
 
 -- ---- memory
 
@@ -44,7 +45,7 @@ filled_regions l [] bytes m = refl
 filled_regions l (d ∷ ds) bytes m = filled_regions l ds _ _
 
 area_regions : (addr number : ℕ) (m : Contents) → (area.with_field addr number m).regions ≡ m.regions
-unfolding area.with_field
+unfolding with_le16
 area_regions addr number m = refl
 
 offered_regions : (l : Layout) (place head : ℕ) (m : Contents) → (offered l place head m).regions ≡ m.regions
@@ -88,24 +89,30 @@ harvested_regions m b = go (is_none (harvested m b).stray && b.event) _ _
     go false addr number = refl
 
 pub call_regions : (c : Command) (v : Vhost) (m : Contents) (x : control.Call) → control.call_of c v m ≡ Some x → SameRegions m x
-call_regions (command.Features vhost bits) v m x e = called_regions _ _ _ _ v m x e
-call_regions (command.VNum vhost ring n) v m x e = called_regions _ _ _ _ v m x e
-call_regions (command.VBase vhost ring n) v m x e = called_regions _ _ _ _ v m x e
-call_regions (command.VAddr vhost ring desc avail used) v m x e = called_regions _ _ _ _ v m x e
-call_regions (command.GetBase vhost ring) v m x e = called_regions _ _ _ _ v m x e
-call_regions (command.DriveAt vhost ring addr) v m x e = where_some (SameRegions m) _ x (go (drive_refusal m addr (ring_at ring v.settings).queue.layout.num)) e
+call_regions (command.Features vhost bits) v m x e =
+    called_regions (features_refusal bits v.settings) (dev.with_features bits v.settings) answer.Done (Some (kind.Features vhost)) v m x e
+call_regions (command.VNum vhost ring n) v m x e =
+    called_regions (num_refusal ring n v.settings) (dev.with_num ring n v.settings) answer.Done (control.on_ring ring (kind.Num vhost ring)) v m x e
+call_regions (command.VBase vhost ring n) v m x e =
+    called_regions (base_refusal ring n v.settings) (dev.with_base ring n v.settings) answer.Done (control.on_ring ring (kind.Base vhost ring)) v m x e
+call_regions (command.VAddr vhost ring desc avail used) v m x e =
+    called_regions (addr_refusal ring desc avail used m v.settings) (dev.with_addr ring desc avail used v.settings) answer.Done
+    (control.on_ring ring (kind.Addr vhost ring)) v m x e
+call_regions (command.GetBase vhost ring) v m x e =
+    called_regions (number_refusal ring) v.settings (answer.Base (ring_at ring v.settings).queue.positions.next) (control.on_ring ring (kind.GetBase vhost ring)) v m x e
+call_regions (command.DriveAt vhost ring addr) v m x e = where_some (SameRegions m) (control.call_of (command.DriveAt vhost ring addr) v m) x (go (drive_refusal m addr (ring_at ring v.settings).queue.layout.num)) e
   where
     go : (o : Option DriveErr) → WhereSome (SameRegions m) (option_map_or (λ r. control.refused (kind.Drive vhost ring) v m (control.drive_told r)) o
         (Some (control.driven ring (kind.Drive vhost ring) v
         (first_books addr (ring_at ring v.settings).queue.layout.num (ring_at ring v.settings).queue.layout.event) m answer.Done)))
     go None = refl
     go (Some r) = refused_regions (kind.Drive vhost ring) v m (control.drive_told r)
-call_regions (command.PostIn vhost ring lens) v m x e = where_some (SameRegions m) _ x
+call_regions (command.PostIn vhost ring lens) v m x e = where_some (SameRegions m) (control.call_of (command.PostIn vhost ring lens) v m) x
     (books_regions (kind.Post vhost ring) v m (driver_of ring v) _ (λ b. posts_regions vhost ring (post_in_refusal lens b) (length lens) (posted_in b lens m) b v m (posted_in_regions b lens m))) e
-call_regions (command.PostOut vhost ring bytes) v m x e = where_some (SameRegions m) _ x
+call_regions (command.PostOut vhost ring bytes) v m x e = where_some (SameRegions m) (control.call_of (command.PostOut vhost ring bytes) v m) x
     (books_regions (kind.Post vhost ring) v m (driver_of ring v) _
     (λ b. posts_regions vhost ring (post_out_refusal (length bytes) b) (full_pieces (length bytes) + 1) (posted_out b bytes m) b v m (posted_out_regions b bytes m))) e
-call_regions (command.Harvest vhost ring) v m x e = where_some (SameRegions m) _ x
+call_regions (command.Harvest vhost ring) v m x e = where_some (SameRegions m) (control.call_of (command.Harvest vhost ring) v m) x
     (books_regions (kind.Harvest vhost ring) v m (driver_of ring v) _ (λ b. harvested_regions m b)) e
 call_regions c v m x e = absurd (cc (e))
 

@@ -61,51 +61,51 @@ refusal_rests : (c : Command) (e : VhostErr) (changed : Settings) (y : Answer) (
 refusal_rests c e changed y k v m = where_then (Called c v m) (vhost_answer e) _ (λ told q. Untouched refl refl refl refl)
 
 pub called_is : (c : Command) (v : Vhost) (m : Contents) (x : Call) → call_of c v m ≡ Some x → Called c v m x
-called_is (command.Features vhost bits) v m x e = where_some (Called (command.Features vhost bits) v m) _ x (go (features_refusal bits v.settings) _ _ refl) e
+called_is (command.Features vhost bits) v m x e = where_some (Called (command.Features vhost bits) v m) (call_of (command.Features vhost bits) v m) x (go (features_refusal bits v.settings) _ _ refl) e
   where
     go : (o : Option VhostErr) (y : Answer) (k : Option Kind) → features_refusal bits v.settings ≡ o
         → WhereSome (Called (command.Features vhost bits) v m) (called o (with_features bits v.settings) y k v m)
     go None y k is = Features vhost bits refl is refl
     go (Some r) y k is = refusal_rests (command.Features vhost bits) r (with_features bits v.settings) y k v m
-called_is (command.VNum vhost ring n) v m x e = where_some (Called (command.VNum vhost ring n) v m) _ x (go (num_refusal ring n v.settings) _ _ refl) e
+called_is (command.VNum vhost ring n) v m x e = where_some (Called (command.VNum vhost ring n) v m) (call_of (command.VNum vhost ring n) v m) x (go (num_refusal ring n v.settings) _ _ refl) e
   where
     go : (o : Option VhostErr) (y : Answer) (k : Option Kind) → num_refusal ring n v.settings ≡ o
         → WhereSome (Called (command.VNum vhost ring n) v m) (called o (with_num ring n v.settings) y k v m)
     go None y k is = Num vhost ring n refl is refl
     go (Some r) y k is = refusal_rests (command.VNum vhost ring n) r (with_num ring n v.settings) y k v m
-called_is (command.VBase vhost ring n) v m x e = where_some (Called (command.VBase vhost ring n) v m) _ x (go (base_refusal ring n v.settings) _ _ refl) e
+called_is (command.VBase vhost ring n) v m x e = where_some (Called (command.VBase vhost ring n) v m) (call_of (command.VBase vhost ring n) v m) x (go (base_refusal ring n v.settings) _ _ refl) e
   where
     go : (o : Option VhostErr) (y : Answer) (k : Option Kind) → base_refusal ring n v.settings ≡ o
         → WhereSome (Called (command.VBase vhost ring n) v m) (called o (with_base ring n v.settings) y k v m)
     go None y k is = Base vhost ring n refl is refl
     go (Some r) y k is = refusal_rests (command.VBase vhost ring n) r (with_base ring n v.settings) y k v m
 called_is (command.VAddr vhost ring desc avail used) v m x e =
-    where_some (Called (command.VAddr vhost ring desc avail used) v m) _ x (go (addr_refusal ring desc avail used m v.settings) _ _ refl) e
+    where_some (Called (command.VAddr vhost ring desc avail used) v m) (call_of (command.VAddr vhost ring desc avail used) v m) x (go (addr_refusal ring desc avail used m v.settings) _ _ refl) e
   where
     go : (o : Option VhostErr) (y : Answer) (k : Option Kind) → addr_refusal ring desc avail used m v.settings ≡ o
         → WhereSome (Called (command.VAddr vhost ring desc avail used) v m) (called o (with_addr ring desc avail used v.settings) y k v m)
     go None y k is = Addr vhost ring desc avail used refl is refl
     go (Some r) y k is = refusal_rests (command.VAddr vhost ring desc avail used) r (with_addr ring desc avail used v.settings) y k v m
-called_is (command.GetBase vhost ring) v m x e = where_some (Called (command.GetBase vhost ring) v m) _ x (go (number_refusal ring) _ _) e
+called_is (command.GetBase vhost ring) v m x e = where_some (Called (command.GetBase vhost ring) v m) (call_of (command.GetBase vhost ring) v m) x (go (number_refusal ring) _ _) e
   where
     go : (o : Option VhostErr) (y : Answer) (k : Option Kind) → WhereSome (Called (command.GetBase vhost ring) v m) (called o v.settings y k v m)
     go None y k = Untouched refl refl refl refl
     go (Some r) y k = refusal_rests (command.GetBase vhost ring) r v.settings y k v m
 called_is (command.DriveAt vhost ring addr) v m x e =
-    where_some (Called (command.DriveAt vhost ring addr) v m) _ x (go (drive_refusal m addr (ring_at ring v.settings).queue.layout.num)) e
+    where_some (Called (command.DriveAt vhost ring addr) v m) (call_of (command.DriveAt vhost ring addr) v m) x (go (drive_refusal m addr (ring_at ring v.settings).queue.layout.num)) e
   where
     go : (o : Option DriveErr) → WhereSome (Called (command.DriveAt vhost ring addr) v m) (option_map_or (λ r. refused (kind.Drive vhost ring) v m (drive_told r)) o
         (Some (driven ring (kind.Drive vhost ring) v
         (first_books addr (ring_at ring v.settings).queue.layout.num (ring_at ring v.settings).queue.layout.event) m answer.Done)))
     go None = driver_rests (command.DriveAt vhost ring addr) m (kind.Drive vhost ring) ring _ v m answer.Done
     go (Some r) = refused_rests (command.DriveAt vhost ring addr) (kind.Drive vhost ring) v m (drive_told r)
-called_is (command.PostIn vhost ring lens) v m x e = where_some (Called (command.PostIn vhost ring lens) v m) _ x
+called_is (command.PostIn vhost ring lens) v m x e = where_some (Called (command.PostIn vhost ring lens) v m) (call_of (command.PostIn vhost ring lens) v m) x
     (with_books_rests (command.PostIn vhost ring lens) (kind.Post vhost ring) v m (driver_of ring v) _
     (λ b. posts_rest (command.PostIn vhost ring lens) vhost ring (post_in_refusal lens b) (length lens) (posted_in b lens m) b v m)) e
-called_is (command.PostOut vhost ring bytes) v m x e = where_some (Called (command.PostOut vhost ring bytes) v m) _ x
+called_is (command.PostOut vhost ring bytes) v m x e = where_some (Called (command.PostOut vhost ring bytes) v m) (call_of (command.PostOut vhost ring bytes) v m) x
     (with_books_rests (command.PostOut vhost ring bytes) (kind.Post vhost ring) v m (driver_of ring v) _
     (λ b. posts_rest (command.PostOut vhost ring bytes) vhost ring (post_out_refusal (length bytes) b) (full_pieces (length bytes) + 1) (posted_out b bytes m) b v m)) e
-called_is (command.Harvest vhost ring) v m x e = where_some (Called (command.Harvest vhost ring) v m) _ x
+called_is (command.Harvest vhost ring) v m x e = where_some (Called (command.Harvest vhost ring) v m) (call_of (command.Harvest vhost ring) v m) x
     (with_books_rests (command.Harvest vhost ring) (kind.Harvest vhost ring) v m (driver_of ring v) _
     (λ b. driver_rests (command.Harvest vhost ring) m (kind.Harvest vhost ring) ring _ v _ _)) e
 called_is c v m x e = absurd (cc (e))

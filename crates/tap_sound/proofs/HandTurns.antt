@@ -19,6 +19,7 @@ use Rattle.scen_words.specs.declared.command.Command.TheVariants as command
 use Rattle.tap_world.specs.declared.event.EventKind.{EventKind}
 use Rattle.tap_world.specs.declared.event.EventKind.TheVariants as event
 use Rattle.tap_world.specs.declared.event.Found.{Found}
+use Rattle.tap_world.specs.declared.event.Found.TheVariants as found
 use Rattle.tap_world.specs.ByNumber.{at}
 use Rattle.tap_ground.specs.Options.{◌>>=◌}
 use Rattle.tap_world.specs.Frames.{FrameText}

@@ -124,14 +124,12 @@ pub unsetting : (P : Effect → Type 0) (s : Setup) (w : World) (actor seen : �
 unsetting P s w actor seen x vhost r v m h = where_if P (is_free_for actor r v) (back.back_call s w actor seen x vhost r None v m)
     (λ b. where_then P (back.refused_by (number_refusal r)) _ (λ told e. h told e))
 
-abbrev pub set_answer : Setup → World → Option TapErr → ℕ → ℕ → Vhost → Contents → Option (Option Answer)
-set_answer s w x r file v m = back.back_answer (ready_refusal r m v.settings) x (back.unfit_for (steer.shape_of (table s w) file) v.settings)
-
 pub setting : (P : Effect → Type 0) (s : Setup) (w : World) (actor seen : ℕ) (x : Option TapErr) (vhost r file : ℕ) (v : Vhost) (m : Contents)
-    → ((told : Option Answer) → set_answer s w x r file v m ≡ Some told → P (back.sets_back w actor seen vhost r file x v m told))
+    → ((told : Option Answer) → back.back_answer (ready_refusal r m v.settings) x (back.unfit_for (steer.shape_of (table s w) file) v.settings) ≡ Some told
+    → P (back.sets_back w actor seen vhost r file x v m told))
     → WhereSome P (if is_free_for actor r v then back.back_call s w actor seen x vhost r (Some file) v m else None)
 setting P s w actor seen x vhost r file v m h = where_if P (is_free_for actor r v) (back.back_call s w actor seen x vhost r (Some file) v m)
-    (λ b. where_then P (set_answer s w x r file v m) _ (λ told e. h told e))
+    (λ b. where_then P (back.back_answer (ready_refusal r m v.settings) x (back.unfit_for (steer.shape_of (table s w) file) v.settings)) _ (λ told e. h told e))
 
 pub tx_made : (P : Effect → Type 0) (w : World) (actor seen vhost file : ℕ) (told : List ChainText) (v : Vhost) (made : TxState × Act)
     → ((step : Kind) (over : Option TurnText) → rx_turns.kind_of vhost 1 made.1 ≡ Some step → rx_turns.over_told (tx_turns.tx_over made.0.turn.stage) ≡ Some over

@@ -163,9 +163,9 @@ holding s w me seen d c r can (Calling vhost v g x is of a b call may eq) = subs
 holding s w me seen d c r can (Touching guest g m step v y at_ same is o f gs vs wr on) =
     Rests wr (ap (λ (q : Onward). holds (doing_after q d)) on ∙ sym (ap holds is))
 holding s w me seen d c r can (RxTurning vhost file t v g h made files f over cis a b way step leaves told_ eq) =
-    subst (Holding w me d) eq (Rests refl (rx_holds seen file made.0.turn f d _ ∙ sym (rx_free me d file t v way)))
+    subst (Holding w me d) eq (Rests refl (rx_holds seen file made.0.turn f d over ∙ sym (rx_free me d file t v way)))
 holding s w me seen d c r can (TxTurning vhost file t told v g made st over cis a b way step end_ eq) =
-    subst (Holding w me d) eq (Rests refl (tx_holds seen file made.0.turn _ _ d _ ∙ sym (tx_free d file t told v way)))
+    subst (Holding w me d) eq (Rests refl (tx_holds seen file made.0.turn _ _ d over ∙ sym (tx_free d file t told v way)))
 
 -- ---- the world after it
 
