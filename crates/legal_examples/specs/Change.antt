@@ -17,6 +17,12 @@ change_at n change [] = []
 change_at zero change (x ∷ xs) = change x ∷ xs
 change_at (suc n) change (x ∷ xs) = x ∷ change_at n change xs
 
+-- a list with a member more, at this place
+abbrev pub with_more : {A : Type 0} → ℕ → A → List A → List A
+with_more n new [] = new ∷ []
+with_more zero new (x ∷ xs) = new ∷ x ∷ xs
+with_more (suc n) new (x ∷ xs) = x ∷ with_more n new xs
+
 -- a list without one of its members
 abbrev pub without : {A : Type 0} → ℕ → List A → List A
 without n [] = []

@@ -7,6 +7,7 @@ use Rattle.tap_ledger.specs.declared.fate.Fate.TheVariants as fate
 use Rattle.tap_ledger.specs.declared.side.Side.TheVariants.{Tx}
 use Rattle.tap_trace.specs.declared.answer.Answer.{Answer}
 use Rattle.tap_trace.specs.declared.answer.Answer.TheVariants as answer
+use Rattle.tap_trace.specs.declared.kind.Kind.TheVariants as kind
 use Rattle.tap_trace.specs.declared.trace.AnswerLine.{AnswerLine}
 use Rattle.tap_trace.specs.declared.trace.FilePart.{FilePart}
 use Rattle.tap_trace.specs.declared.trace.OpLine.{OpLine}
@@ -14,9 +15,9 @@ use Rattle.tap_trace.specs.declared.trace.OpText.{OpText}
 use Rattle.tap_trace.specs.declared.trace.OpText.TheVariants as text
 use Rattle.tap_trace.specs.declared.trace.PlaceLine.{PlaceLine}
 use Rattle.tap_trace.specs.declared.trace.StepLine.{StepLine}
-use Rattle.legal_examples.specs.Change.{change_at, with_answer, with_answers, with_entries, with_fate, with_file, with_line, with_ops, with_seen, with_steps, without}
+use Rattle.legal_examples.specs.Change.{change_at, with_answer, with_answers, with_entries, with_fate, with_file, with_line, with_ops, with_more, with_seen, with_steps, without}
 use Rattle.legal_examples.specs.Play.{judged, judged_by}
-use Rattle.legal_examples.specs.Texts.{moved, poked}
+use Rattle.legal_examples.specs.Texts.{alike, moved, poked}
 use Rattle.legal_examples.specs.Verdicts.{Change, as_it_is, sent}
 
 -- ---- scenarios, whose traces are short enough to be counted by hand
@@ -229,6 +230,10 @@ ends_changed other = other
 abbrev pub features_last : Change
 features_last t = with_steps 0 ends_changed t
 
+-- a turn fetches both chains before it copies a frame for which the first one is enough
+abbrev pub fetches_more : Change
+fetches_more t = with_steps 0 (with_more 9 (record { actor = 0; command = 12; kind = kind.Fetch 0 0 1 1 })) t
+
 -- ---- each with its verdict
 
 -- the runs' own traces
@@ -274,3 +279,4 @@ SmallChangesAreIllegal =
     × (judged ended gone_by_own ≡ Some (codes "illegal 4 e"))
     × (judged ended_later gone_too_early ≡ Some (codes "illegal 8 e"))
     × (judged set_up features_last ≡ Some (codes "illegal 11 g"))
+    × (judged alike fetches_more ≡ Some (codes "illegal 33 g"))

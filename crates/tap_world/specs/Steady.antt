@@ -37,7 +37,8 @@ use Rattle.tap_world.specs.StepBackend.{back_refusal, side_of}
 use Rattle.tap_world.specs.StepTurns.{front_frame}
 use Rattle.tap_world.specs.Project.{answers_of}
 use Rattle.tap_world.specs.SoundTable.{commanded, writing}
-use Rattle.tap_world.specs.Sound.{EachActor, EachFile, holds, table_capacity}
+use Rattle.tap_world.specs.Each.{EachActor, EachFile}
+use Rattle.tap_world.specs.Sound.{holds, table_capacity}
 
 -- ---- 1: what is there
 

@@ -8,4 +8,4 @@ returns-clause-legal c = (refl, refl, refl, refl, refl, refl, refl, refl, refl, 
 
 pub returns-clause-illegal : goal.returns-clause-illegal
 unfolding all
-returns-clause-illegal c = (refl, refl, refl, refl, refl, refl, refl, refl, refl, refl, refl, refl, refl, refl, refl, refl, refl, refl, refl, refl, refl, refl)
+returns-clause-illegal c = (refl, refl, refl, refl, refl, refl, refl, refl, refl, refl, refl, refl, refl, refl, refl, refl, refl, refl, refl, refl, refl, refl, refl)
