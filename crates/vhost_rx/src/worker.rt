@@ -115,6 +115,13 @@ impl RxWorker {
         }
     }
 
+    /// Where the turn stands: which step comes next.
+    pub fn stage(&self) -> RxStage
+        ensures { result ≡ self.now.turn.stage }
+    {
+        self.stage
+    }
+
     /// Whether the ring's queue is the one of `begin`, changed since by this worker's steps alone, as far as
     /// the numbers that both keep can tell, and the turn isn't over. It takes the same time whatever the
     /// turn did.

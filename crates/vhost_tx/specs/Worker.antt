@@ -1,5 +1,5 @@
 -- This project's own: what a transmit worker is to a contract, and how it and its queue fit together between two steps.
-use Rattle.std.specs.Prelude.{◌≡◌, ℕ, ◌+◌, ◌<◌, ◌≤◌, Bool, true, false, length, None, Some, is_some}
+use Rattle.std.specs.Prelude.{◌≡◌, ℕ, ◌+◌, ◌<◌, ◌≤◌, Bool, true, false, length, Option, None, Some, is_some}
 use Rattle.guest_mem.specs.Memory.{Contents}
 use Rattle.vring_split.specs.declared.layout.Layout.{Layout}
 use Rattle.vhost_queue.specs.Queue.{Queue, Reserved, room_of, most_done}
