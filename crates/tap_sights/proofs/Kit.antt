@@ -2,9 +2,9 @@
 use Rattle.std.proofs.Common.{◌≡◌, ◌⊎◌, ℕ, zero, suc, ◌+◌, ◌-◌, ◌≤◌, ◌<◌, cond, List, [], ◌∷◌, ◌++◌, length, map, Option, Some, None, Bool, true, false, refl, sym, ap, ◌∙◌, subst, inl, inr, ⊎_elim, true≢false, arith}
 use Rattle.std.specs.Prelude.{◌&&◌, ◌||◌, not, max, filter, filter_map, find, flat_map, slice_get}
 
-use Rattle.std.specs.List.{cons_option, list_any}
+use Rattle.std.specs.List.{cons_option, list_all, list_any}
 use Rattle.std.specs.Option.{option_map_or}
-use Rattle.std.proofs.lemmas.Bool.{or_left, or_right, or_from, cases_Bool, cases_lt}
+use Rattle.std.proofs.lemmas.Bool.{and_from, or_left, or_right, or_from, cases_Bool, cases_lt}
 use Rattle.tap_legal.specs.Numbered.{AnswerAt, EntryAt, OpAt, Told, entries_from}
 use Rattle.tap_trace.specs.declared.trace.PlaceLine.{PlaceLine}
 use Rattle.tap_legal.specs.Case.{fails_after, fails_each, fails_order}
@@ -27,6 +27,10 @@ none_fails line test (x ∷ xs) each = rw (each x (inl refl)) (none_fails line t
 pub none_mapped : {A B : Type 0} (f : A → List B) (xs : List A) → ((x : A) → In x xs → f x ≡ []) → flat_map f xs ≡ []
 none_mapped f [] each = refl
 none_mapped f (x ∷ xs) each = both_none (f x) (flat_map f xs) (each x (inl refl)) (none_mapped f xs (λ y i. each y (inr i)))
+
+pub all_hold : {A : Type 0} (test : A → Bool) (xs : List A) → ((x : A) → In x xs → test x ≡ true) → list_all test xs ≡ true
+all_hold test [] each = refl
+all_hold test (x ∷ xs) each = and_from (test x) (list_all test xs) (each x (inl refl)) (all_hold test xs (λ y i. each y (inr i)))
 
 pub none_any : {A : Type 0} (test : A → Bool) (xs : List A) → ((x : A) → In x xs → test x ≡ false) → list_any test xs ≡ false
 none_any test [] each = refl

@@ -24,7 +24,7 @@ use Rattle.tap_sights.specs.Tells.{IsNotReady, Tells, TellsRead, TellsTurn}
 use Rattle.tap_sights.specs.LineFacts.{FileTells, IsTold, TellsFate, WasCut}
 use Rattle.tap_sights.specs.Laws.{CutsAreTold}
 use Rattle.tap_sights.specs.Sights.{Sighted}
-use Rattle.tap_sights.proofs.Kit.{any_in, both_none, found, passes, in_append, in_entries, in_filter, in_filter_of, in_flat_map, in_map, in_map_of, none_any, none_fails, none_mapped, some_same, there_is, which}
+use Rattle.tap_sights.proofs.Kit.{all_hold, any_in, both_none, found, passes, in_append, in_entries, in_filter, in_filter_of, in_flat_map, in_map, in_map_of, none_any, none_fails, none_mapped, some_same, there_is, which}
 use Rattle.tap_sights.proofs.Orders.{told_answer, told_is}
 use Rattle.tap_sights.proofs.Taken.{takers_took}
 
@@ -104,7 +104,7 @@ module _ (c : Case) (s : Sighted c) (cuts : CutsAreTold c s.seen) where
   not_ready : (t : Told) → IsTold c t → (file place : ℕ) → IsNotReady c s.seen t file place → is_not_ready c t file place ≡ true
   not_ready t told file place h =
       and_from (is_in_line c file place && is_not_placed c t file place) _ (in_line t told file place h)
-      (ap not (none_any (λ e. not (has_left_below c t file place e)) c.entries (λ e i. ap not (below t told file place h.out e i))))
+      (all_hold (has_left_below c t file place) c.entries (below t told file place h.out))
 
   -- such a place is CLAIMED or that of an entry
   among : (t : Told) (file place : ℕ) → IsNotReady c s.seen t file place → In place (places_of c file)
