@@ -6,3 +6,4 @@ pub mod SoundLemmas
 pub mod SoundOps
 pub mod SlotLemmas
 pub mod LawLemmas
+pub mod BackedLemmas

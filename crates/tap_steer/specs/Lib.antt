@@ -8,3 +8,4 @@ pub mod Examples
 pub mod Laws
 pub mod Slot
 pub mod State
+pub mod Backed

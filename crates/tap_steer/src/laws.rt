@@ -1,5 +1,6 @@
 //! What holds of the table after any lawful operations.
 
+ghost use Rattle.tap_steer.specs.Backed.{BackedHaveDevices};
 ghost use Rattle.tap_steer.specs.Examples.{QueuesComeAndGo, NoQueueIsLeft, FlagsAreRefused, RepliesComeBack, FlowsGo, ProgramsSteerAndCut, ProgramsDrop, DevicesPersist, ResizesEnd};
 ghost use Rattle.tap_steer.specs.Laws.{ReachedIsSound, EpochsNeverFall, DevicesHaveFiles, StaysOverClose, IsFoundAgain, NamesStay};
 
@@ -28,6 +29,11 @@ pub fn persistent_devices_stay()
 /// Files, names and programs stay.
 pub fn names_stay()
     ensures { NamesStay }
+{}
+
+/// After lawful operations a file that is the backend of a ring has a device.
+pub fn backed_have_devices()
+    ensures { BackedHaveDevices }
 {}
 
 /// Worked examples.

@@ -24,8 +24,8 @@ mod tests;
 pub use error::{Busy, Invalid, TapErr, TooBig};
 pub use files::{Attachment, File};
 pub use laws::{
-    devices_have_files, epochs_never_fall, names_stay, persistent_devices_stay, reached_is_sound,
-    worked_examples,
+    backed_have_devices, devices_have_files, epochs_never_fall, names_stay,
+    persistent_devices_stay, reached_is_sound, worked_examples,
 };
 pub use operation::{
     IFF_ATTACH_QUEUE, IFF_DETACH_QUEUE, IFF_MULTI_QUEUE, IFF_NO_PI, IFF_TAP, IFF_TUN_EXCL,
