@@ -3,10 +3,10 @@
 
 USES = [line for line in """use Rattle.std.specs.Prelude.{◌≡◌, ℕ, refl, Some, None, List, [], ◌∷◌, codes, true, false}
 use Rattle.tap_trace.specs.declared.answer.Answer.TheVariants as answer
-use Rattle.tap_trace.specs.declared.causes.TapText.TheVariants as tap
-use Rattle.tap_trace.specs.declared.causes.Invalid.TheVariants as invalid
-use Rattle.tap_trace.specs.declared.causes.Busy.TheVariants as busy
-use Rattle.tap_trace.specs.declared.causes.TooBig.TheVariants as big
+use Rattle.tap_ledger.specs.declared.error.TapErr.TheVariants as tap
+use Rattle.tap_ledger.specs.declared.error.Invalid.TheVariants as invalid
+use Rattle.tap_ledger.specs.declared.error.Busy.TheVariants as busy
+use Rattle.tap_ledger.specs.declared.error.TooBig.TheVariants as big
 use Rattle.tap_trace.specs.declared.causes.VhostText.TheVariants as vhost
 use Rattle.tap_trace.specs.declared.causes.DriveText.TheVariants as drive
 use Rattle.tap_trace.specs.declared.kind.Kind.TheVariants as kind

@@ -17,8 +17,8 @@ from changed_cases import CASES
 from trace_terms import USES, term
 
 REPOSITORY = os.path.dirname(os.path.dirname(os.path.abspath(__file__)))
-CRATES = ["tap_frame", "tap_ledger", "guest_mem", "vring_split", "vring_walk", "vhost_queue", "vring_drive", "ebpf_code",
-          "ebpf_run", "tap_queues", "tap_flow_key", "tap_flows", "tap_steer", "vring_turns", "vhost_dev", "text_fields",
+CRATES = ["tap_ground", "tap_frame", "tap_ledger", "guest_mem", "vring_split", "vring_walk", "vhost_queue", "vring_drive",
+          "ebpf_code", "ebpf_run", "tap_queues", "tap_flow_key", "tap_flows", "tap_steer", "vring_turns", "vhost_dev", "text_fields",
           "scen_words", "scen_text", "tap_trace", "trace_causes", "trace_words", "trace_text", "tap_world", "tap_legal"]
 # definitions of the toolchain that a run opens
 KIT = (["use Rattle.hex.specs.Hex as hex", "use Rattle.std.specs.Fmt as fmt"],

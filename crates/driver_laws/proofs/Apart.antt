@@ -2,7 +2,7 @@
 use Rattle.std.proofs.Common.{◌≡◌, ℕ, zero, suc, ◌+◌, ◌<◌, ◌≤◌, nat_lt, List, [], ◌∷◌, length, take, refl, arith}
 use Rattle.std.specs.Prelude.{if◌then◌else◌}
 use Rattle.std.proofs.lemmas.Bool.Decides.{nat_tests}
-use Rattle.vring_drive.specs.Laws.{times_in}
+use Rattle.tap_ground.specs.Lists.{times as times_in}
 use Rattle.driver_laws.specs.Offers.{AreApart}
 
 -- no number stands more often than once, and each is below a bound

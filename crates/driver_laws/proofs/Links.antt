@@ -10,7 +10,7 @@ use Rattle.vring_split.specs.declared.layout.Layout.{Layout}
 use Rattle.vring_split.specs.Laws.{DescFits}
 use Rattle.vring_split.specs.Split.{desc_addr, desc_of, desc_bytes}
 use Rattle.vring_drive.specs.Area.{slot_len}
-use Rattle.vring_drive.specs.Laws.{times_in}
+use Rattle.tap_ground.specs.Lists.{times as times_in}
 use Rattle.vring_drive.specs.Posts.{desc_for, flags_for, linked}
 use Rattle.driver_laws.specs.Offers.{AreApart, StandLinked}
 use Rattle.driver_laws.proofs.Bytes.{written_there, at_write, before_write, behind_write}

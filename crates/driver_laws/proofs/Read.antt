@@ -15,7 +15,7 @@ use Rattle.vring_split.specs.Split.{desc_addr, desc_bytes, avail_idx_addr, avail
 use Rattle.vring_walk.specs.Spread.{gathered}
 use Rattle.vring_drive.specs.Area.{slot_len, slot_at, after, with_field, layout_at}
 use Rattle.vring_drive.specs.Books.{ring_of, chain_of, head_of}
-use Rattle.vring_drive.specs.Laws.{times_in}
+use Rattle.tap_ground.specs.Lists.{times as times_in}
 use Rattle.vring_drive.specs.Posts.{desc_for, linked, offered, filled, full_pieces, piece_lens}
 use Rattle.driver_laws.specs.Offers.{segments_for, AreApart, PostOutIsRead}
 use Rattle.driver_laws.proofs.Bytes.{written_there, at_write, before_write, behind_write}

@@ -15,7 +15,7 @@ use Rattle.vring_walk.specs.Fetch.{avail_idx, avail_head}
 use Rattle.vring_walk.specs.Fetched.{path_from, told_at_once, fetched}
 use Rattle.vring_drive.specs.Area.{slot_len, slot_at, area_len, data_offset, after, with_field, layout_at}
 use Rattle.vring_drive.specs.Books.{Books, ring_of, chain_of, head_of}
-use Rattle.vring_drive.specs.Laws.{times_in}
+use Rattle.tap_ground.specs.Lists.{times as times_in}
 use Rattle.vring_drive.specs.Posts.{desc_for, linked, offered, filled, full_pieces, piece_lens, post_in_refusal, post_out_refusal, length_refusal, full_refusal}
 use Rattle.vring_drive.specs.Harvests.{harvested}
 use Rattle.driver_laws.specs.Offers.{segments_for, AreApart, AreTaken, StandLinked, IsOffered, IsReady, OfferIsFound, PostsOffer, PostsLeaveOffers, HarvestsLeaveOffers}

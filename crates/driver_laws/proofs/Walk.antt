@@ -11,7 +11,8 @@ use Rattle.vring_split.specs.declared.layout.Layout.{Layout}
 use Rattle.vring_split.specs.declared.segment.Segment.{Segment}
 use Rattle.vring_split.specs.Split.{is_indirect}
 use Rattle.vring_walk.specs.declared.table.Table.{Table}
-use Rattle.vring_walk.specs.Chain.{Look, Cover, Place, desc_at, own_table, place_after, segment_in, any_writable, is_bad_length, first_broken, fault_after}
+use Rattle.tap_ground.specs.Options.{first_that_holds as first_broken}
+use Rattle.vring_walk.specs.Chain.{Look, Cover, Place, desc_at, own_table, place_after, segment_in, any_writable, is_bad_length, fault_after}
 use Rattle.vring_walk.specs.Fetched.{PathEnd, path_end}
 use Rattle.vring_walk.specs.Fetched.PathEnd.{Breaks, Gives}
 use Rattle.vring_drive.specs.Area.{slot_len, slot_at}

@@ -9,7 +9,8 @@ use Rattle.vring_split.specs.Split.{desc_addr, desc_of, distance}
 use Rattle.vring_drive.specs.Area.{slot_len, slot_at, layout_at}
 use Rattle.vring_drive.specs.Books.{Books, HasArea, ring_of, chain_of, head_of}
 use Rattle.vring_drive.specs.Posts.{desc_for, full_pieces, piece_lens, post_in_refusal, post_out_refusal, posted_in, posted_out}
-use Rattle.vring_drive.specs.Laws.{IsWhole, times_in}
+use Rattle.tap_ground.specs.Lists.{times as times_in}
+use Rattle.vring_drive.specs.Laws.{IsWhole}
 use Rattle.vring_drive.specs.Harvests.{harvested_in}
 use Rattle.vring_walk.specs.declared.walk.Fetched.TheVariants.{Chain}
 use Rattle.vring_walk.specs.Fetch.{avail_idx, avail_head}

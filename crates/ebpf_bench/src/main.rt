@@ -42,7 +42,7 @@ fn repeated(alloc: Global, slots: usize, instruction: &[u8; 8]) -> Result<Vec<u8
 }
 
 fn program_of(alloc: Global, bytes: &[u8]) -> Result<Program> {
-    accept(alloc, bytes).ok().context("a program")
+    accept(alloc, bytes).context("a program")
 }
 
 /// 4,000 instructions of a kind, on a frame of 60 bytes.

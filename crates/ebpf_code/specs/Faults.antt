@@ -4,8 +4,6 @@ use Rattle.std.specs.Option.{option_map}
 use Rattle.ebpf_code.specs.declared.fault.CodeWhy.{CodeWhy}
 use Rattle.ebpf_code.specs.declared.fault.CodeWhy.TheVariants.{Length, Opcode, Register, Backward, Beyond, Unset, NoExit, HalfWide, TooMany, Field}
 use Rattle.ebpf_code.specs.declared.fault.CodeFault.{CodeFault}
-use Rattle.ebpf_code.specs.declared.fault.OrMemory.{OrMemory}
-use Rattle.ebpf_code.specs.declared.fault.OrMemory.TheVariants.{Fault, NoMemory}
 use Rattle.ebpf_code.specs.declared.encoding.Encoding.{Encoding}
 use Rattle.ebpf_code.specs.declared.instruction.Instruction.{Instruction}
 use Rattle.ebpf_code.specs.declared.instruction.Slot.{Slot}
@@ -176,8 +174,3 @@ IsFirstFault bytes fault =
 abbrev pub IsLeast : List ℕ → ℕ → CodeWhy → Type 0
 IsLeast bytes place why =
     HasFault bytes place why × ((other : CodeWhy) → HasFault bytes place other → number why ≤ number other)
-
--- a fault, and not want of memory
-abbrev pub IfFault : {E : Type 0} → (E → Type 0) → OrMemory E → Type 0
-IfFault P (Fault fault) = P fault
-IfFault P NoMemory = Unit {0}

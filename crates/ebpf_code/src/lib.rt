@@ -23,7 +23,7 @@ mod set;
 mod step;
 
 pub use encoding::Encoding;
-pub use fault::{CodeFault, CodeWhy, OrMemory};
+pub use fault::{CodeFault, CodeWhy};
 pub use instruction::{Instruction, Slot};
 pub use laws::{first_fault_laws, program_laws};
 pub use operation::{
@@ -32,6 +32,7 @@ pub use operation::{
 pub use program::{Program, accept, encode};
 pub use register::Register;
 pub use step::{Code, Step};
+pub use tap_ground::OrMemory;
 
 #[cfg(test)]
 mod tests;

@@ -1,7 +1,8 @@
 //! The one pass over the slots of a program.
 
 ghost use Rattle.std.specs.Prelude.{◌≡◌, ℕ, ◌+◌, ◌*◌, ◌<◌, ◌≤◌, ◌&&◌, length, Some, None, true, false, IfOk, IfErr, OnOk, OnErr, slice_get, slice_index_or, slice_set};
-ghost use Rattle.ebpf_code.specs.Faults.{is_second, slot_at, goes_beyond, lacks_exit, HasNone, IsLeast, NoFault, IsFirstFault, IfFault};
+ghost use Rattle.tap_ground.specs.Errors.{IfFault};
+ghost use Rattle.ebpf_code.specs.Faults.{is_second, slot_at, goes_beyond, lacks_exit, HasNone, IsLeast, NoFault, IsFirstFault};
 ghost use Rattle.ebpf_code.specs.Instruction.{leads};
 ghost use Rattle.ebpf_code.specs.Sets.{read, holds, kept_holds, Meets, AreKept, AreSeconds, kept_at};
 ghost use Rattle.ebpf_code.specs.Program.{AreSlots};
@@ -9,10 +10,11 @@ ghost use Rattle.ebpf_code.specs.Program.{AreSlots};
 use crate::check::check;
 use crate::decoded::Decoded;
 use crate::encoding::Encoding;
-use crate::fault::{CodeFault, CodeWhy, OrMemory};
+use crate::fault::{CodeFault, CodeWhy};
 use crate::instruction::Slot;
 use crate::set::RegisterSet;
 use std::alloc::{AllocError, Global};
+use tap_ground::OrMemory;
 
 /// A path comes to a place with this set.
 fn meet_at(sets: &mut [Option<RegisterSet>], place: usize, set: &RegisterSet)

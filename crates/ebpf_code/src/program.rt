@@ -1,19 +1,21 @@
 //! Programs: bytes in, bytes out.
 
 ghost use Rattle.std.specs.Prelude.{◌≡◌, ◌*◌, ◌++◌, length, IfOk, OnOk, IfErr};
-ghost use Rattle.ebpf_code.specs.Faults.{NoFault, IsFirstFault, IfFault};
+ghost use Rattle.tap_ground.specs.Errors.{IfFault};
+ghost use Rattle.ebpf_code.specs.Faults.{NoFault, IsFirstFault};
 ghost use Rattle.ebpf_code.specs.Program.{AreSlots};
 ghost use Rattle.ebpf_code.specs.Sound.{IsSound};
 ghost use Rattle.ebpf_code.specs.Step.{AreSteps};
 ghost use Rattle.ebpf_code.specs.Spelling.{slot_bytes, spelling};
 
 use crate::check::second_slots;
-use crate::fault::{CodeFault, CodeWhy, OrMemory};
+use crate::fault::{CodeFault, CodeWhy};
 use crate::instruction::{Instruction, Slot};
 use crate::pass::slots_of;
 use crate::step::{Step, steps_of};
 use std::alloc::{AllocError, Global};
 use std::marker::Model;
+use tap_ground::OrMemory;
 
 /// A program without faults, of 1 to 4,096 slots. To a contract it is its bytes.
 #[derive(Drop)]

@@ -1,5 +1,6 @@
 -- This project's own: a guest's memory is its regions and those of their bytes that aren't 0.
 use Rattle.std.specs.Prelude.{◌≡◌, ℕ, ◌+◌, ◌-◌, ◌^◌, ◌<◌, ◌≤◌, zero, suc, min, max, Bool, false, ◌&&◌, ◌==◌, nat_lt, nat_le, List, [], ◌∷◌, ◌++◌, length, filter, slice_get, slice_index, Option, None, Some, is_some, is_none, IsSome, IsTrue, unwrap_or, if◌then◌else◌}
+use Rattle.std.specs.Int.{w16, from_le_bytes, to_le_bytes}
 use Rattle.std.specs.List.{list_any}
 use Rattle.std.specs.Option.{option_map}
 use Rattle.guest_mem.specs.declared.region.Region.{Region}
@@ -107,6 +108,13 @@ with_bytes bs a xs =
 -- the memory with bytes written from a on
 abbrev pub written : Contents → ℕ → List ℕ → Contents
 written m a xs = record m { bytes = with_bytes m.bytes a xs }
+
+-- the 16-bit number whose bytes start at an address, the low one first, and the memory with a number there
+unfoldable pub le16_at : Contents → ℕ → ℕ
+le16_at m a = from_le_bytes w16 (bytes_from m.bytes a 2)
+
+unfoldable pub with_le16 : ℕ → ℕ → Contents → Contents
+with_le16 a number m = written m a (to_le_bytes w16 number)
 
 -- What is said of bytes as a function of the address.
 

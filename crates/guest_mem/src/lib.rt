@@ -2,7 +2,8 @@
 //!
 //! A `Memory` is made of regions that share no byte, and each of its bytes starts as 0. A read or a
 //! write may go over regions that touch; where one of its bytes lies outside every region, the first
-//! such address comes back, and nothing is read or written.
+//! such address comes back, and nothing is read or written. Where the caller knows that all of them
+//! are there, `bytes_in`, `read_in`, `write_in`, `le16_at` and `put_le16` can't fail.
 //!
 //! A contract sees a `Memory` as its regions and the list of its bytes that aren't 0, each behind its
 //! address, in rising order: equal memories are equal lists. `specs/Memory.antt` has the words: the byte
@@ -13,6 +14,7 @@
 
 mod block;
 mod build;
+mod covered;
 mod laws;
 mod memory;
 mod region;

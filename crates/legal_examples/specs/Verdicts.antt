@@ -5,8 +5,8 @@ use Rattle.tap_frame.specs.declared.name.Name.{Name}
 use Rattle.tap_ledger.specs.declared.fate.Cause.TheVariants as cause
 use Rattle.tap_ledger.specs.declared.fate.Fate.TheVariants as fate
 use Rattle.tap_trace.specs.declared.answer.Answer.TheVariants as answer
-use Rattle.tap_trace.specs.declared.causes.TapText.TheVariants as tap
-use Rattle.tap_trace.specs.declared.causes.Busy.TheVariants as busy
+use Rattle.tap_ledger.specs.declared.error.TapErr.TheVariants as tap
+use Rattle.tap_ledger.specs.declared.error.Busy.TheVariants as busy
 use Rattle.tap_trace.specs.declared.kind.Kind.TheVariants as kind
 use Rattle.tap_trace.specs.declared.trace.AnswerLine.{AnswerLine}
 use Rattle.tap_trace.specs.declared.trace.PhasePart.{PhasePart}

@@ -3,8 +3,8 @@ use Rattle.std.specs.Prelude.{◌≡◌, Result, Ok, Err, ℕ, zero, suc, Bool, 
 use Rattle.std.specs.Option.{option_flatten}
 use Rattle.std.specs.Global.{Vec}
 use Rattle.guest_mem.specs.Memory.{Contents, byte_at}
-use Rattle.vring_drive.specs.declared.error.OrMemory.{OrMemory}
-use Rattle.vring_drive.specs.declared.error.OrMemory.TheVariants.{Fault, NoMemory}
+use Rattle.tap_ground.specs.declared.error.OrMemory.{OrMemory}
+use Rattle.tap_ground.specs.declared.error.OrMemory.TheVariants.{Fault, NoMemory}
 use Rattle.vring_drive.specs.declared.error.StrayUsed.{StrayUsed}
 use Rattle.vring_packed.specs.declared.desc.PackedDesc.{PackedDesc}
 use Rattle.vring_packed.specs.Packed.{has_flag}

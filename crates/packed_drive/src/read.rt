@@ -22,10 +22,8 @@ pub fn desc_at(mem: &Memory, start: u64, num: u16, entry: u16) -> PackedDesc
 {
     range_laws();
     let mut bytes = [0u8; 16];
-    match mem.read(start + 16 * u64::from(entry), &mut bytes) {
-        Ok(()) => PackedDesc::of(&bytes),
-        Err(_) => unreachable!(),
-    }
+    mem.read_in(start + 16 * u64::from(entry), &mut bytes);
+    PackedDesc::of(&bytes)
 }
 
 /// Whether a descriptor is used where the wrap counter is this.

@@ -55,10 +55,7 @@ pub fn write_desc(mem: &mut Memory, post: &Post, place: &Place, len: u32, more: 
         id: post.id,
         flags: flags_for(post.writable, more, place.wrap),
     };
-    match mem.write(post.start + 16 * u64::from(place.at), &desc.bytes()) {
-        Ok(()) => {}
-        Err(_) => unreachable!(),
-    }
+    mem.write_in(post.start + 16 * u64::from(place.at), &desc.bytes());
 }
 
 /// Writes descriptors of these lengths from a place on.
@@ -94,10 +91,7 @@ pub fn fill(mem: &mut Memory, start: u64, num: u16, first: Place, lens: &[u32], 
     let mut left = bytes;
     for len in lens {
         let (piece, behind) = left.split_at(left.len().min(*len as usize));
-        match mem.write(slot_at(start, num, place.at), piece) {
-            Ok(()) => {}
-            Err(_) => unreachable!(),
-        }
+        mem.write_in(slot_at(start, num, place.at), piece);
         left = behind;
         place = place.after(num, 1);
     }

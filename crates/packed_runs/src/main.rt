@@ -130,7 +130,7 @@ fn turn(sides: &mut Sides, mem: &mut Memory, alloc: Global) -> Result<()> {
 /// Takes back what was used: the next ones of the list.
 fn harvest(sides: &mut Sides, mem: &mut Memory) -> Result<()> {
     ensure!(sides.driver.has_area(mem), "no area");
-    let found = sides.driver.harvest(mem).ok().context("stray")?;
+    let found = sides.driver.harvest(mem).context("stray")?;
     for (id, len) in found.iter().copied() {
         let sent = sides
             .sent
@@ -169,9 +169,7 @@ fn memory(alloc: Global) -> Result<Memory> {
 /// The two sides at their start, with a ring of so many descriptors.
 fn start(mem: &Memory, alloc: Global, num: u16) -> Result<Sides> {
     ensure!(1 <= num && num <= 32_768, "the queue size");
-    let driver = PackedDriver::new(alloc, mem, 0, num)
-        .ok()
-        .context("driver")?;
+    let driver = PackedDriver::new(alloc, mem, 0, num).context("driver")?;
     let ring: PackedLayout = driver.layout(true, false, false);
     ensure!(1 <= ring.num && ring.num <= 32_768, "the queue size");
     Ok(Sides {

@@ -54,10 +54,10 @@ fn drive(
     ensure!(!lens.is_empty(), "no length");
     for i in 0..rounds {
         ensure!(driver.has_area(mem), "no area");
-        let head = driver.post_in(mem, lens).ok().context("post")?;
+        let head = driver.post_in(mem, lens).context("post")?;
         use_chain(mem, used, num, (i % 65_536) as u16, head);
         ensure!(driver.has_area(mem), "no area");
-        let found = driver.harvest(mem).ok().context("harvest")?;
+        let found = driver.harvest(mem).context("harvest")?;
         back = back.saturating_add(found.len().min(1) as u32);
     }
     Ok(back)
@@ -90,9 +90,7 @@ fn run_driver<R: AllocGlobal + Print + std::rt::Clock>(
 ) -> Result<()> {
     ensure!(num.is_power_of_two() && num <= 32768, "the queue size");
     let mut mem = memory(rt.alloc())?;
-    let mut driver = Driver::new(rt.alloc(), &mem, 0, num, false)
-        .ok()
-        .context("driver")?;
+    let mut driver = Driver::new(rt.alloc(), &mem, 0, num, false).context("driver")?;
     let lens = vec![in rt.alloc(); 64u32; descriptors]?;
     let start = Instant::now(rt)?;
     let rounds = if timed { ROUNDS } else { 1 };

@@ -11,7 +11,7 @@ use std::thread;
 use std::thread::{Threads, join};
 use std::time::Instant;
 use tap_frame::Frame;
-use tap_ring::{Consumer, Parts, Producer, PutBack, TapRing};
+use tap_ring::{Consumer, MAX_SLOTS, Parts, Producer, PutBack, TapRing};
 
 // Puts a frame, again and again until it is placed.
 fn place<R: Wait>(rt: &R, ring: &TapRing, p: &mut Producer, mut frame: Frame)
@@ -125,7 +125,7 @@ pub(crate) fn one<R: Threads + Wait + Clock + Sync>(
     alloc: Global,
     capacity: u16,
 ) -> Result<Taken, AllocError>
-    requires { (1 ≤ capacity) × (capacity ≤ 1024) }
+    requires { (1 ≤ capacity) × (capacity ≤ MAX_SLOTS) }
 {
     let Parts {
         ring,
@@ -174,7 +174,7 @@ pub(crate) fn four<R: Threads + Wait + Clock + Sync>(
     alloc: Global,
     capacity: u16,
 ) -> Result<Taken, AllocError>
-    requires { (1 ≤ capacity) × (capacity ≤ 1024) }
+    requires { (1 ≤ capacity) × (capacity ≤ MAX_SLOTS) }
 {
     let Parts {
         ring,

@@ -19,6 +19,7 @@ use std::sync::atomic::{AtomicU64, Ordering};
 use std::sync::{Barrier, Wait};
 use std::thread::Threads;
 use std::time::Duration;
+use tap_ring::MAX_SLOTS;
 
 /// How many frames come through in each run.
 pub(crate) const FRAMES: u32 = 200_000;
@@ -81,7 +82,7 @@ fn run<R: Threads + Wait + Clock + Sync + Print>(
     capacity: u16,
     timed: bool,
 ) -> Result<()>
-    requires { (1 ≤ capacity) × (capacity ≤ 1024) }
+    requires { (1 ≤ capacity) × (capacity ≤ MAX_SLOTS) }
 {
     println!(rt; "capacity {capacity}")?;
     report(
@@ -114,6 +115,6 @@ fn run<R: Threads + Wait + Clock + Sync + Print>(
 fn main(rt: HostRuntime) -> Result<()> {
     let timed = is_timed(&rt)?;
     run(&rt, rt.alloc(), 256, timed)?;
-    run(&rt, rt.alloc(), 1024, timed)?;
+    run(&rt, rt.alloc(), MAX_SLOTS, timed)?;
     Ok(())
 }

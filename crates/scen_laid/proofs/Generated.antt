@@ -61,7 +61,7 @@ traffic_is n =
 abbrev scenario_by : List Declaration → List (List ℕ) → List Phase → Scenario
 scenario_by ds names phases = record { version = 1; declarations = ds; names = names; phases = phases }
 
-generated_is : (n : ℕ) → n ≤ 100000 → scenario_of (said_in 1 (Ends ∷ sent n)) ≡ generated n
+pub generated_is : (n : ℕ) → n ≤ 100000 → scenario_of (said_in 1 (Ends ∷ sent n)) ≡ generated n
 unfolding scenario_of declarations_of names_of with_name phases_of
 generated_is n h =
     let s = sends_are n h in

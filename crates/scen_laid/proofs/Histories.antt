@@ -15,7 +15,10 @@ use Rattle.scen_words.specs.Laws.{FitSentence, SentencesFit}
 use Rattle.scen_words.specs.Sentences.{sentence_of, version_of}
 use Rattle.scen_text.specs.declared.fault.ScenFault.{ScenFault}
 use Rattle.scen_text.specs.Before.{before, command_after, command_count, declarations_of, is_started, names_of, number_for, place_of, turn_count}
-use Rattle.scen_text.specs.Refusals.{◌>>=◌, ◌orelse◌, Said, at_line, cause, command_why, declaration_why, is_block, is_misplaced, is_nil, is_twice, is_unknown, lacks_guest, passes_limit, passes_names, program_why, region_why, said_from, said_in, said_of, said_of_lines, unless, when}
+use Rattle.scen_text.specs.Refusals.{◌orelse◌, Said, at_line, cause, command_why, declaration_why, is_block, is_misplaced, is_twice, is_unknown, lacks_guest, passes_limit, passes_names, program_why, region_why, said_from, said_in, said_of, said_of_lines, unless}
+use Rattle.tap_ground.specs.Lists.{is_nil}
+use Rattle.tap_ground.specs.Options.{only_if as when}
+use Rattle.tap_ground.specs.Results.{◌>>=◌}
 
 -- ---- a history without refusals
 

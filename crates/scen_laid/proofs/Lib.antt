@@ -9,3 +9,4 @@ mod Laid
 mod SoundRuns
 mod Sent
 mod Generated
+mod Texts

@@ -23,8 +23,8 @@ use Rattle.scen_text.specs.declared.scenario.Script.{Script}
 use Rattle.scen_text.specs.Before.{add_line, at_last, command_after, declarations_of, line_after, names_of, number_for, phase_of, phases_of, place_of, script_of, scripts_from, with_line, with_name}
 use Rattle.scen_text.specs.Refusals.{is_file, is_guest, is_misplaced, is_program, is_unknown, is_vhost, lacks}
 use Rattle.tap_world.specs.ByNumber.{at}
-use Rattle.tap_world.specs.Setup.{Numbered, Setup, place_among, script_in}
-use Rattle.scen_laid.specs.Phases.{IsLine, IsPhase, NamesDeclared, commands_in, device_of}
+use Rattle.tap_world.specs.Setup.{NamesDeclared, Numbered, Setup, device_in, place_among, script_in}
+use Rattle.scen_laid.specs.Phases.{IsLine, IsPhase, commands_in}
 use Rattle.scen_laid.proofs.Histories.{Accepted, Ordered, or_false, was_declared, was_ordered}
 use Rattle.scen_laid.proofs.Naming.{Grows, grows_trans, named_at, named_within, with_grows}
 use Rattle.scen_laid.proofs.Ordered.{LastHas, PlaceFits, lines_are, not_started}
@@ -42,7 +42,7 @@ known : (is : ℕ → Declaration → Bool) (ds : List Declaration) (o : Option 
 known is ds None P e there = tt
 known is ds (Some n) P e there = there n (not_false (list_any (is n) ds) e)
 
-device_within : (ns : List (List ℕ)) (c : Command) → FitForm (command_form (command_word c)) (command_values ns c) → IfSome (device_of c) (λ n. n < length ns)
+device_within : (ns : List (List ℕ)) (c : Command) → FitForm (command_form (command_word c)) (command_values ns c) → IfSome (device_in c) (λ n. n < length ns)
 unfolding command_values
 device_within ns (SetIff file name flags) h = named_within ns name h.each.1.0
 device_within ns (Send name hdr bytes) h = named_within ns name h.each.0

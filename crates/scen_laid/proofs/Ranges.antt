@@ -34,7 +34,7 @@ first_fits zero c v h = absurd h
 first_fits (suc n) c v h = h.0
 
 -- the first place behind a number and a capacity
-first_in : (n : ℕ) (v : List Value) → FitKinds (replicate n first_place) v → number_in (slice_get v 0) ≤ 2 ^ 40 - 1
+first_in : (n : ℕ) (v : List Value) → FitKinds (replicate n first_place) v → number_in (slice_get v 0) ≤ 1099511627775
 first_in n [] h = omega arith
 first_in n (c ∷ v) h = let f = number_fits 0 1099511627775 c (first_fits n c v h) in let b = f.below in omega arith
 

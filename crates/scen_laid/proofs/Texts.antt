@@ -25,7 +25,8 @@ use Rattle.scen_words.specs.Sentences.{sentence_of, version_of}
 use Rattle.scen_text.specs.declared.fault.ScenFault.{ScenFault}
 use Rattle.scen_text.specs.declared.scenario.Line.{Line}
 use Rattle.scen_text.specs.Before.{before}
-use Rattle.scen_text.specs.Refusals.{◌>>=◌, Said, at_line, cause, is_nil, said_from, said_in, said_of, said_of_lines}
+use Rattle.scen_text.specs.Refusals.{cause, said_from, said_in, said_of, said_of_lines}
+use Rattle.tap_ground.specs.Lists.{is_nil}
 use Rattle.scen_text.specs.Scenario.{Stands, scenario_of}
 use Rattle.scen_text.specs.ScenarioText.{actor_row, bare_row, ending_row, opening_row, scenario_rows, scenario_text}
 use Rattle.scen_gen.specs.Generated.{attached, file_of, flags, frame_of, generated, has_read, lines, lines_at, read_line, send_line, traffic}

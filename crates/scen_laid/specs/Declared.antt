@@ -1,12 +1,12 @@
 -- This project's own: how a scenario that some text stands for lays down files, guests, vhosts, programs and flows.
-use Rattle.std.specs.Prelude.{◌≡◌, ℕ, ◌^◌, ◌-◌, ◌≤◌, List, length, All, Some, None}
+use Rattle.std.specs.Prelude.{◌≡◌, ℕ, ◌≤◌, List, length, All, Some, None}
 use Rattle.std.specs.List.{AllByRecursion}
 use Rattle.ebpf_code.specs.FirstFault.{first_fault}
 use Rattle.guest_mem.specs.declared.region.Region.{Region as Piece}
 use Rattle.guest_mem.specs.Regions.{refusal}
 use Rattle.scen_words.specs.declared.declaration.Declaration.{Declaration}
 use Rattle.scen_words.specs.declared.declaration.Declaration.TheVariants.{File, Region, Vhost, Prog, Flows}
-use Rattle.scen_words.specs.declared.limits.TheConstants.{MAX_NAMES, MAX_PLACES}
+use Rattle.scen_words.specs.declared.limits.TheConstants.{MAX_FILE, MAX_FIRST, MAX_NAMES, MAX_PLACES}
 use Rattle.tap_steer.specs.Named.{AreLimits}
 use Rattle.tap_world.specs.ByNumber.{at}
 use Rattle.tap_world.specs.Setup.{Declared, Setup}
@@ -16,7 +16,7 @@ use Rattle.tap_world.specs.Setup.{Declared, Setup}
 -- The numbers of a declaration are in range: there are 320 files, 8 guests, 64 vhosts and 64 programs; a file has 1 to
 -- 1,024 places, and the first of them is one of 2 ^ 40.
 abbrev pub IsInRange : Declaration → Type 0
-IsInRange (File file capacity first) = (file ≤ 319) × (1 ≤ capacity) × (capacity ≤ MAX_PLACES) × (first ≤ 2 ^ 40 - 1)
+IsInRange (File file capacity first) = (file ≤ MAX_FILE) × (1 ≤ capacity) × (capacity ≤ MAX_PLACES) × (first ≤ MAX_FIRST)
 IsInRange (Region guest addr len) = guest ≤ 7
 IsInRange (Vhost vhost guest) = (vhost ≤ 63) × (guest ≤ 7)
 IsInRange (Prog program code) = program ≤ 63

@@ -1,18 +1,16 @@
 -- This project's own: what the names, the commands and the phases of a scenario that some text stands for are.
-use Rattle.std.specs.Prelude.{◌≡◌, ℕ, ◌<◌, ◌≤◌, true, List, length, map, filter, flat_map, slice_get, Option, Some, None, IfSome, IsSome}
+use Rattle.std.specs.Prelude.{◌≡◌, ℕ, ◌<◌, ◌≤◌, true, List, length, map, filter, flat_map, slice_get, Some}
 use Rattle.std.specs.List.{AllByRecursion}
 use Rattle.text_fields.specs.Forms.{FitForm}
 use Rattle.text_fields.specs.Names.{is_name}
 use Rattle.scen_words.specs.declared.command.Command.{Command}
-use Rattle.scen_words.specs.declared.command.Command.TheVariants.{SetIff, Send}
 use Rattle.scen_words.specs.declared.limits.TheConstants.{MAX_COMMANDS, MAX_NAMES, MAX_TURNS}
-use Rattle.scen_words.specs.Commands.{command_values, command_word, file_of, guest_of, is_turn, program_of, vhost_of}
+use Rattle.scen_words.specs.Commands.{command_values, command_word, is_turn}
 use Rattle.scen_words.specs.Words.{command_form}
 use Rattle.scen_text.specs.declared.scenario.Line.{Line}
 use Rattle.scen_text.specs.declared.scenario.Phase.{Phase}
 use Rattle.scen_text.specs.declared.scenario.Script.{Script}
-use Rattle.tap_world.specs.ByNumber.{at}
-use Rattle.tap_world.specs.Setup.{Numbered, Setup, place_among, script_in}
+use Rattle.tap_world.specs.Setup.{NamesDeclared, Numbered, Setup, script_in}
 
 -- ---- names
 
@@ -21,23 +19,6 @@ pub record AreNames (names : List (List ℕ)) : Type 0 where
   pub few : length names ≤ MAX_NAMES
   pub good : AllByRecursion (λ (name : List ℕ). is_name name ≡ true) names
   pub once : (i j : ℕ) (name : List ℕ) → slice_get names i ≡ Some name → slice_get names j ≡ Some name → i ≡ j
-
--- ---- commands
-
--- the name that a command names, by its number
-abbrev pub device_of : Command → Option ℕ
-device_of (SetIff file name flags) = Some name
-device_of (Send name hdr bytes) = Some name
-device_of c = None
-
--- What a command names is declared, and the name that it names is there. So its program has a place among the
--- programs, and each name is below 64.
-pub record NamesDeclared (s : Setup) (c : Command) : Type 0 where
-  pub file : IfSome (file_of c) (λ file. IsSome (at s.files file))
-  pub guest : IfSome (guest_of c) (λ guest. IsSome (at s.guests guest))
-  pub vhost : IfSome (vhost_of c) (λ vhost. IsSome (at s.vhosts vhost))
-  pub program : IfSome (program_of c) (λ program. place_among program s.programs < length s.programs)
-  pub device : IfSome (device_of c) (λ device. device < length s.names)
 
 -- ---- phases
 

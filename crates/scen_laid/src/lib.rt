@@ -7,7 +7,7 @@
 //! with a premise but that.
 #![tactic(auto)]
 
-ghost use Rattle.scen_laid.specs.Generated.{GeneratedIsLaid, RunsOfGenerated};
+ghost use Rattle.scen_laid.specs.Generated.{GeneratedIsLaid, GeneratedStands, RunsOfGenerated};
 ghost use Rattle.scen_laid.specs.Laid.{ReadIsLaid};
 ghost use Rattle.scen_laid.specs.Runs.{LaidRunsAreSound, RunsOfText};
 
@@ -40,11 +40,14 @@ pub fn runs_of_text()
     laid_runs_are_sound();
 }
 
-/// Each scenario that is generated is laid as those of texts are, and its runs are sound.
+/// The text of each scenario that is generated stands for it; so it is laid, and its runs are sound.
 pub fn generated_is_laid()
+    ensures text { GeneratedStands }
     ensures laid { GeneratedIsLaid }
     ensures runs { RunsOfGenerated }
 {
+    text_fields::line_laws();
+    scen_words::line_laws();
     scen_words::command_laws();
     laid_runs_are_sound();
 }

@@ -6,7 +6,9 @@ use Rattle.scen_words.specs.Laws.{FitSentence, SentencesFit}
 use Rattle.scen_words.specs.Sentences.{sentence_of}
 use Rattle.scen_text.specs.declared.fault.ScenFault.{ScenFault}
 use Rattle.scen_text.specs.Before.{before}
-use Rattle.scen_text.specs.Refusals.{◌>>=◌, at_line, cause, is_nil, said_from, unless}
+use Rattle.tap_ground.specs.Lists.{is_nil}
+use Rattle.tap_ground.specs.Results.{◌>>=◌}
+use Rattle.scen_text.specs.Refusals.{at_line, cause, said_from, unless}
 
 abbrev Says : Type 0
 Says = Result Sentence Why

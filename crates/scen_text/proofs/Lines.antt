@@ -7,13 +7,14 @@ use Rattle.std.proofs.lemmas.List.Splits.{length-slice_split}
 use Rattle.std.proofs.lemmas.List.Sums.{count_by-le-length}
 use Rattle.text_fields.specs.Lines.{but_empty_last, lines_of}
 use Rattle.scen_text.specs.declared.builder.Builder.{Builder}
-use Rattle.scen_words.specs.declared.fault.OrMemory.{OrMemory}
-use Rattle.scen_words.specs.declared.fault.OrMemory.TheVariants as error
+use Rattle.tap_ground.specs.declared.error.OrMemory.{OrMemory}
+use Rattle.tap_ground.specs.declared.error.OrMemory.TheVariants as error
 use Rattle.scen_text.specs.declared.fault.ScenFault.{ScenFault}
 use Rattle.scen_words.specs.declared.fault.Why.{Why}
 use Rattle.scen_words.specs.declared.sentence.Sentence.{Sentence}
 use Rattle.scen_text.specs.Building.{Builds, HearsLine, Keeps, error_at}
-use Rattle.scen_text.specs.Refusals.{is_nil, said_after, said_from}
+use Rattle.tap_ground.specs.Lists.{is_nil}
+use Rattle.scen_text.specs.Refusals.{said_after, said_from}
 
 -- the next line and those behind it
 abbrev pub rest_of : Option (List ℕ) → List (List ℕ) → List (List ℕ)

@@ -17,7 +17,8 @@ use Rattle.scen_words.specs.declared.word.CommandWord.{CommandWord}
 use Rattle.scen_words.specs.declared.word.DeclarationWord.{DeclarationWord}
 use Rattle.scen_text.specs.Before.{add_line, before, command_after, command_count, declarations_of, is_started, line_after, names_of, number_for, phase_of, phases_of, place_of, turn_count}
 use Rattle.scen_words.specs.Commands.{command_of, commanded_name, normal}
-use Rattle.scen_text.specs.Refusals.{cause, command_why, declaration_why, is_block, is_misplaced, is_unknown, passes_limit, when, ◌orelse◌}
+use Rattle.tap_ground.specs.Options.{only_if as when}
+use Rattle.scen_text.specs.Refusals.{cause, command_why, declaration_why, is_block, is_misplaced, is_unknown, passes_limit, ◌orelse◌}
 use Rattle.scen_words.specs.Words.{command_form}
 use Rattle.scen_text.proofs.Accepted.{Accepted}
 use Rattle.scen_text.proofs.Flat.{Ordered, flat, flat_count, flat_declarations, flat_names, flat_turns}

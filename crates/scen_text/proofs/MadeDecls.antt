@@ -16,7 +16,8 @@ use Rattle.scen_words.specs.declared.word.DeclarationWord.TheVariants as declara
 use Rattle.scen_words.specs.declared.word.Word.TheVariants as word
 use Rattle.scen_text.specs.Before.{before, declarations_of, is_started, names_of, number_for}
 use Rattle.scen_words.specs.Commands.{declaration_of, declared_name, normal}
-use Rattle.scen_text.specs.Refusals.{cause, declaration_why, is_twice, lacks_guest, passes_names, program_why, region_why, when, ◌orelse◌}
+use Rattle.tap_ground.specs.Options.{only_if as when}
+use Rattle.scen_text.specs.Refusals.{cause, declaration_why, is_twice, lacks_guest, passes_names, program_why, region_why, ◌orelse◌}
 use Rattle.scen_words.specs.Words.{declaration_form, is_in_version}
 use Rattle.scen_text.proofs.Accepted.{Accepted}
 use Rattle.scen_text.proofs.Flat.{flat_declarations, flat_names, normal_name, normal_same, normal_twice}

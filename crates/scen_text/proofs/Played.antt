@@ -19,7 +19,8 @@ use Rattle.scen_words.specs.declared.sentence.Sentence.TheVariants.{Orders}
 use Rattle.scen_words.specs.declared.word.CommandWord.{CommandWord}
 use Rattle.scen_text.specs.Before.{before, command_after, command_count, declarations_of, line_after, names_of, number_among, number_for, place_of, turn_count, with_name}
 use Rattle.scen_words.specs.Commands.{command_of, command_values, commanded_name, name_of}
-use Rattle.scen_text.specs.Refusals.{cause, command_why, is_block, is_misplaced, is_nil, is_unknown, passes_limit, said_from}
+use Rattle.tap_ground.specs.Lists.{is_nil}
+use Rattle.scen_text.specs.Refusals.{cause, command_why, is_block, is_misplaced, is_unknown, passes_limit, said_from}
 use Rattle.scen_words.specs.Laws.{ActorsAreReadAgain, CommandsAreReadAgain, DeclarationValuesAreKept, DeclarationWordsAreKept, DeclarationsAreReadAgain, EndingsAreReadAgain, OpeningsAreReadAgain, ValuesAreKept, WordsAreKept}
 use Rattle.scen_words.specs.Rows.{command_row}
 use Rattle.scen_words.specs.Sentences.{sentence_of}

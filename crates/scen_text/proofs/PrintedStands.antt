@@ -29,7 +29,8 @@ use Rattle.scen_text.specs.Before.{add_line, before, declarations_of, line_after
 use Rattle.scen_words.specs.Commands.{declaration_of, declaration_values, declared_name, normal}
 use Rattle.scen_words.specs.Field.{line, text}
 use Rattle.scen_words.specs.declared.limits.TheConstants.{MAX_BYTES}
-use Rattle.scen_text.specs.Refusals.{◌>>=◌, Said, at_line, cause, is_block, said_from, said_in, said_of, said_of_lines}
+use Rattle.tap_ground.specs.Results.{◌>>=◌}
+use Rattle.scen_text.specs.Refusals.{Said, at_line, cause, is_block, said_from, said_in, said_of, said_of_lines}
 use Rattle.scen_text.specs.Scenario.{Stands, scenario_of}
 use Rattle.scen_text.specs.ScenarioLaws.{PrintedStands}
 use Rattle.scen_words.specs.Rows.{declaration_row}

@@ -15,8 +15,8 @@ use Rattle.guest_mem.specs.declared.region.RegionFault.{RegionFault}
 use Rattle.guest_mem.specs.Regions.{refusal}
 use Rattle.scen_text.specs.declared.builder.Builder.{Builder}
 use Rattle.scen_words.specs.declared.command.Command.{Command}
-use Rattle.scen_words.specs.declared.fault.OrMemory.{OrMemory}
-use Rattle.scen_words.specs.declared.fault.OrMemory.TheVariants as error
+use Rattle.tap_ground.specs.declared.error.OrMemory.{OrMemory}
+use Rattle.tap_ground.specs.declared.error.OrMemory.TheVariants as error
 use Rattle.scen_words.specs.declared.fault.Why.{Why}
 use Rattle.scen_words.specs.declared.fault.Why.TheVariants as why
 use Rattle.scen_text.specs.declared.place.Place.{Place}
@@ -31,7 +31,7 @@ use Rattle.scen_words.specs.declared.word.DeclarationWord.TheVariants as declara
 use Rattle.scen_text.specs.Before.{Before, before, add_line, at_last, command_count, declarations_of, is_started, names_of, number_among, number_for, phase_of, phases_of, place_of, turn_count, with_line, with_name}
 use Rattle.scen_text.specs.Building.{Hears, HearsLine, Keeps, Takes, closed, shown, standing, with_command, with_declaration}
 use Rattle.scen_words.specs.Commands.{bytes_at, command_of, commanded_name, declaration_of, declared_name, is_turn, u16_at, u64_at}
-use Rattle.scen_words.specs.Gives.{Gives}
+use Rattle.tap_ground.specs.Errors.{Gives}
 use Rattle.scen_words.specs.Sentences.{sentence_of}
 use Rattle.scen_text.specs.Lines.{lines_before, open_phase, place_after, turns_of}
 use Rattle.scen_text.specs.Refusals.{cause, command_why, declaration_why, is_block, is_file, is_flows, is_guest, is_misplaced, is_program, is_unknown, is_vhost, passes_limit, passes_names, regions_of, said_in}

@@ -3,8 +3,8 @@ use Rattle.std.proofs.Common.{◌≡◌, ℕ, ◌+◌, ◌<◌, ◌≤◌, ◌^�
 use Rattle.std.proofs.lemmas.Bool.{le-ltb, lt-ltb}
 use Rattle.text_fields.specs.Lines.{lines_of}
 use Rattle.scen_text.specs.declared.builder.Builder.{Builder}
-use Rattle.scen_words.specs.declared.fault.OrMemory.{OrMemory}
-use Rattle.scen_words.specs.declared.fault.OrMemory.TheVariants as error
+use Rattle.tap_ground.specs.declared.error.OrMemory.{OrMemory}
+use Rattle.tap_ground.specs.declared.error.OrMemory.TheVariants as error
 use Rattle.scen_text.specs.declared.fault.ScenFault.{ScenFault}
 use Rattle.scen_words.specs.declared.fault.Why.{Why}
 use Rattle.scen_words.specs.declared.fault.Why.TheVariants as why

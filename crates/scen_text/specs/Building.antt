@@ -2,8 +2,8 @@
 use Rattle.std.specs.Prelude.{◌≡◌, ℕ, ◌+◌, Bool, true, List, [], ◌∷◌, ◌++◌, None, Some, Option, Result, Ok, Err}
 use Rattle.scen_text.specs.declared.builder.Builder.{Builder}
 use Rattle.scen_words.specs.declared.command.Command.{Command}
-use Rattle.scen_words.specs.declared.fault.OrMemory.{OrMemory}
-use Rattle.scen_words.specs.declared.fault.OrMemory.TheVariants as error
+use Rattle.tap_ground.specs.declared.error.OrMemory.{OrMemory}
+use Rattle.tap_ground.specs.declared.error.OrMemory.TheVariants as error
 use Rattle.scen_text.specs.declared.fault.ScenFault.{ScenFault}
 use Rattle.scen_words.specs.declared.fault.Why.{Why}
 use Rattle.scen_text.specs.declared.place.Place.TheVariants.{Outside}

@@ -23,11 +23,9 @@ use Rattle.scen_text.specs.Before.{Before, before, number_among, number_for}
 use Rattle.scen_words.specs.Commands.{command_of, commanded_name, declaration_of, declared_name, file_of, guest_of, is_turn, program_of, vhost_of}
 use Rattle.scen_words.specs.declared.limits.TheConstants.{MAX_BYTES, MAX_COMMANDS, MAX_NAMES, MAX_TURNS}
 use Rattle.scen_words.specs.Sentences.{sentence_of, version_of}
-
-infixl 10 ◌>>=◌
-abbrev pub ◌>>=◌ : {A B E : Type 0} → Result A E → (A → Result B E) → Result B E
-(Ok x) >>= f = f x
-(Err e) >>= f = Err e
+use Rattle.tap_ground.specs.Results.{◌>>=◌}
+use Rattle.tap_ground.specs.Lists.{is_nil}
+use Rattle.tap_ground.specs.Options.{only_if as when}
 
 -- ---- what is declared
 
@@ -126,9 +124,6 @@ is_misplaced place (Some actor) = not (has_actor place actor)
 
 -- ---- the least refusal of a line behind a history
 
-abbrev pub when : Bool → Why → Option Why
-when b why = if b then Some why else None
-
 -- the first that there is
 infixr 10 ◌orelse◌
 abbrev pub ◌orelse◌ : Option Why → Option Why → Option Why
@@ -178,10 +173,6 @@ said_after version earlier last line = sentence_of version line >>= λ s. unless
 abbrev pub at_line : {A : Type 0} → ℕ → Result A Why → Result A ScenFault
 at_line n (Ok x) = Ok x
 at_line n (Err why) = Err (record { line = n; why = why })
-
-abbrev pub is_nil : List (List ℕ) → Bool
-is_nil [] = true
-is_nil (line ∷ lines) = false
 
 -- the history with the lines from line n on, or their first refusal
 unfoldable pub said_from : ℕ → List Sentence → ℕ → List (List ℕ) → Result (List Sentence) ScenFault

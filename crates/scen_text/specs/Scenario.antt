@@ -1,7 +1,7 @@
 -- This project's own: the scenario that a text stands for.
 use Rattle.std.specs.Prelude.{◌≡◌, ℕ, List, Ok, Some}
-use Rattle.scen_words.specs.declared.fault.OrMemory.{OrMemory}
-use Rattle.scen_words.specs.declared.fault.OrMemory.TheVariants as error
+use Rattle.tap_ground.specs.declared.error.OrMemory.{OrMemory}
+use Rattle.tap_ground.specs.declared.error.OrMemory.TheVariants as error
 use Rattle.scen_text.specs.declared.fault.ScenFault.{ScenFault}
 use Rattle.scen_text.specs.declared.scenario.Scenario.{Scenario}
 use Rattle.scen_text.specs.Before.{declarations_of, names_of, phases_of}

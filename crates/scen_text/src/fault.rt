@@ -1,6 +1,7 @@
 //! The refusal of a scenario.
 
 use scen_words::Why;
+use std::error::Error;
 use std::fmt;
 
 /// The first refusal of a scenario, with its line from 1, or 0 for the text as a whole.
@@ -24,3 +25,5 @@ impl fmt::Display for ScenFault {
         write!(f, "refused {line} {why}")
     }
 }
+
+impl Error for ScenFault {}

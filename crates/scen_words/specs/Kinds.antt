@@ -3,11 +3,11 @@ use Rattle.text_fields.specs.declared.kind.Digits.TheVariants.{Four, Sixteen}
 use Rattle.text_fields.specs.declared.kind.Kind.{Kind}
 use Rattle.text_fields.specs.declared.kind.Kind.TheVariants.{Plain, OrDash}
 use Rattle.text_fields.specs.declared.kind.Shape.TheVariants.{Number, Name, HexNumber, HexBytes, Hex}
-use Rattle.scen_words.specs.declared.limits.TheConstants.{MAX_PLACES, MAX_ROOM}
+use Rattle.scen_words.specs.declared.limits.TheConstants.{MAX_FILE, MAX_FIRST, MAX_PLACES, MAX_ROOM}
 
 -- the number of a file
 abbrev pub file_number : Kind
-file_number = Plain (Number 0 319)
+file_number = Plain (Number 0 MAX_FILE)
 
 -- the number of a guest
 abbrev pub guest_number : Kind
@@ -27,7 +27,7 @@ capacity = Plain (Number 1 MAX_PLACES)
 
 -- the number of a file's first place
 abbrev pub first_place : Kind
-first_place = Plain (Number 0 1099511627775)
+first_place = Plain (Number 0 MAX_FIRST)
 
 -- the name of a device
 abbrev pub device : Kind
@@ -95,7 +95,7 @@ program_or_none = OrDash (Number 0 63)
 
 -- the number of a file, or `-`
 abbrev pub file_or_none : Kind
-file_or_none = OrDash (Number 0 319)
+file_or_none = OrDash (Number 0 MAX_FILE)
 
 -- HEX20: a header, or `-`
 abbrev pub header : Kind

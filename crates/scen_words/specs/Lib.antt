@@ -1,6 +1,5 @@
 pub mod Commands
 pub mod Field
-pub mod Gives
 pub mod Kinds
 pub mod Laws
 pub mod Rows

@@ -5,7 +5,7 @@ ghost use Rattle.scen_words.specs.Why.{why_number};
 
 use ebpf_code::CodeFault;
 use guest_mem::RegionFault;
-use std::alloc::{AllocError, AllocFailed};
+use std::error::Error;
 use std::fmt;
 
 /// Why a scenario is refused.
@@ -84,31 +84,4 @@ impl fmt::Display for Why {
     }
 }
 
-/// A fault, or want of memory.
-#[derive(Clone, Copy, Debug, PartialEq, Eq)]
-pub enum OrMemory<E> {
-    Fault(E),
-    NoMemory,
-}
-
-impl<E> From<AllocError> for OrMemory<E> {
-    ghost use Rattle.std.specs.Prelude.{◌≡◌};
-    ghost use Rattle.scen_words.specs.declared.fault.OrMemory.TheVariants.{NoMemory};
-
-    ghost from_gives = { λ _ e. e ≡ NoMemory };
-
-    fn from(_e: AllocError) -> OrMemory<E> {
-        OrMemory::NoMemory
-    }
-}
-
-impl<E, T: Drop> From<AllocFailed<T>> for OrMemory<E> {
-    ghost use Rattle.std.specs.Prelude.{◌≡◌};
-    ghost use Rattle.scen_words.specs.declared.fault.OrMemory.TheVariants.{NoMemory};
-
-    ghost from_gives = { λ _ e. e ≡ NoMemory };
-
-    fn from(_e: AllocFailed<T>) -> OrMemory<E> {
-        OrMemory::NoMemory
-    }
-}
+impl Error for Why {}

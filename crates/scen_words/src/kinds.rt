@@ -1,12 +1,12 @@
 //! The kinds of the fields of a scenario, with their ranges.
 
-use crate::limits::{MAX_PLACES, MAX_ROOM};
+use crate::limits::{MAX_FILE, MAX_FIRST, MAX_PLACES, MAX_ROOM};
 use text_fields::{Digits, Kind, Shape};
 
 // The number of a file.
 pub const FILE: Kind = Kind::Plain(Shape::Number {
     least: 0,
-    most: 319,
+    most: MAX_FILE,
 });
 // The number of a guest.
 pub const GUEST: Kind = Kind::Plain(Shape::Number { least: 0, most: 7 });
@@ -22,7 +22,7 @@ pub const CAPACITY: Kind = Kind::Plain(Shape::Number {
 // The number of a file's first place.
 pub const FIRST: Kind = Kind::Plain(Shape::Number {
     least: 0,
-    most: 1_099_511_627_775,
+    most: MAX_FIRST,
 });
 // The name of a device.
 pub const NAME: Kind = Kind::Plain(Shape::Name);
@@ -83,7 +83,7 @@ pub const PROGRAM_OR_NONE: Kind = Kind::OrDash(Shape::Number { least: 0, most: 6
 // The number of a file, or `-`.
 pub const FILE_OR_NONE: Kind = Kind::OrDash(Shape::Number {
     least: 0,
-    most: 319,
+    most: MAX_FILE,
 });
 // HEX20: a header, or `-`.
 pub const HEADER: Kind = Kind::OrDash(Shape::HexBytes(20));

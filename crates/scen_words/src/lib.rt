@@ -24,10 +24,13 @@ mod writing;
 
 pub use command::Command;
 pub use declaration::Declaration;
-pub use fault::{OrMemory, Why};
+pub use fault::Why;
 pub use laws::{command_laws, declaration_laws, line_laws, sentence_laws};
-pub use limits::{MAX_BYTES, MAX_COMMANDS, MAX_NAMES, MAX_PLACES, MAX_ROOM, MAX_TURNS};
+pub use limits::{
+    MAX_BYTES, MAX_COMMANDS, MAX_FILE, MAX_FIRST, MAX_NAMES, MAX_PLACES, MAX_ROOM, MAX_TURNS,
+};
 pub use saying::{sentence_of, version_of};
 pub use sentence::Sentence;
+pub use tap_ground::OrMemory;
 pub use word::{CommandWord, DeclarationWord, Word};
 pub use writing::{put_command, put_declaration};

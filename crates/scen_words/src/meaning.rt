@@ -5,18 +5,18 @@ ghost use Rattle.std.specs.Option.{option_copied};
 ghost use Rattle.text_fields.specs.declared.value.Value.TheVariants as value;
 ghost use Rattle.std.specs.Option.{option_map};
 ghost use Rattle.ebpf_code.specs.FirstFault.{first_fault};
-ghost use Rattle.scen_words.specs.Gives.{IfFault};
+ghost use Rattle.tap_ground.specs.Errors.{IfFault};
 ghost use Rattle.scen_words.specs.declared.word.DeclarationWord.TheVariants as declaration;
 ghost use Rattle.scen_words.specs.Commands.{bytes_at, command_of, commanded_name, declaration_of, declared_name, flag_at, header_at, header_in, length_in, lengths_from, name_at, option_at, u16_at, u32_at, u64_at};
 
 use crate::command::Command;
 use crate::declaration::Declaration;
-use crate::fault::OrMemory;
 use crate::word::{CommandWord, DeclarationWord};
 use ebpf_code::{CodeFault, accept, first_fault_laws};
 use sqlite_items::Items;
 use std::alloc::{AllocError, Global};
 use tap_frame::Hdr;
+use tap_ground::OrMemory;
 use text_fields::{DeviceName, SharedBytes, Value};
 
 /// The number in a field, whole.
@@ -184,14 +184,11 @@ pub fn program(alloc: Global, values: &[Value]) -> Result<Declaration, OrMemory<
 {
     first_fault_laws();
     let bytes = bytes_at(alloc, values, 1)?;
-    match accept(alloc, bytes.as_slice()) {
-        Ok(code) => Ok(Declaration::Prog {
-            program: u16_at(values, 0),
-            code,
-        }),
-        Err(ebpf_code::OrMemory::Fault(fault)) => Err(OrMemory::Fault(fault)),
-        Err(ebpf_code::OrMemory::NoMemory) => Err(OrMemory::NoMemory),
-    }
+    let code = accept(alloc, bytes.as_slice())?;
+    Ok(Declaration::Prog {
+        program: u16_at(values, 0),
+        code,
+    })
 }
 
 /// `flows NAME LIMIT AGE`, with the number of the name.

@@ -1,18 +1,19 @@
 //! What a line says by itself.
 
 ghost use Rattle.std.specs.Prelude.{◌≡◌};
-ghost use Rattle.scen_words.specs.Gives.{Gives};
+ghost use Rattle.tap_ground.specs.Errors.{Gives};
 ghost use Rattle.scen_words.specs.Sentences.{actor_sentence, fields_sentence, is_skipped, ordered, plain_sentence, sentence, sentence_of, version_of, why_of};
 ghost use Rattle.text_fields.specs.Forms.{values_of};
 ghost use Rattle.scen_words.specs.Words.{command_form};
 
-use crate::fault::{OrMemory, Why};
+use crate::fault::Why;
 use crate::meaning::u16_at;
 use crate::sentence::Sentence;
 use crate::word::{CommandWord, Word, word_of};
 use sqlite_items::Items;
 use std::alloc::Global;
-use text_fields::{FieldFault, Fields, ReadError, Value, is_text_line, number_of};
+use tap_ground::OrMemory;
+use text_fields::{FieldFault, Fields, Value, is_text_line, number_of};
 
 /// The version that the first line gives.
 #[tactic(auto, unfolding(crate::specs::Sentences::version_of))]
@@ -76,8 +77,8 @@ fn plain_sentence(
     };
     match word.form().read(alloc, fields) {
         Ok(values) => Ok(sentence(word, values)),
-        Err(ReadError::Fault(fault)) => Err(OrMemory::Fault(why_of(fault))),
-        Err(ReadError::NoMemory) => Err(OrMemory::NoMemory),
+        Err(OrMemory::Fault(fault)) => Err(OrMemory::Fault(why_of(fault))),
+        Err(OrMemory::NoMemory) => Err(OrMemory::NoMemory),
     }
 }
 
@@ -91,15 +92,15 @@ fn ordered(
     ensures { Gives result (ordered word actor (values_of (command_form word) fields.entry)) }
 {
     match (word.form().read(alloc, fields), actor) {
-        (Err(ReadError::NoMemory), _) => Err(OrMemory::NoMemory),
-        (Err(ReadError::Fault(FieldFault::Fields)), _) => Err(OrMemory::Fault(Why::Fields)),
+        (Err(OrMemory::NoMemory), _) => Err(OrMemory::NoMemory),
+        (Err(OrMemory::Fault(FieldFault::Fields)), _) => Err(OrMemory::Fault(Why::Fields)),
         (_, None) => Err(OrMemory::Fault(Why::Number)),
         (Ok(values), Some(_)) => Ok(Sentence::Orders {
             actor,
             word,
             values,
         }),
-        (Err(ReadError::Fault(fault)), Some(_)) => Err(OrMemory::Fault(why_of(fault))),
+        (Err(OrMemory::Fault(fault)), Some(_)) => Err(OrMemory::Fault(why_of(fault))),
     }
 }
 

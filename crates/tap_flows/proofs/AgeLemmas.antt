@@ -1,6 +1,6 @@
 -- Lemmas about lists by age.
 use Rattle.std.proofs.Common.{◌≡◌, ℕ, ◌<◌, ◌≤◌, List, [], ◌∷◌, ◌++◌, subst, arith}
-use Rattle.tap_flows.specs.Rings.{times}
+use Rattle.tap_ground.specs.Lists.{times}
 use Rattle.std.specs.List.{AllByRecursion}
 use Rattle.tap_flows.specs.Nodes.{IsRising}
 use Rattle.tap_flows.proofs.RingLemmas.{times_head, times_split}

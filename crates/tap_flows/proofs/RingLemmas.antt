@@ -2,7 +2,8 @@
 use Rattle.std.proofs.Common.{◌≡◌, ◌≢◌, ℕ, ◌+◌, ◌<◌, ◌≤◌, true, cond, eqb, ltb, zero, suc, List, [], ◌∷◌, ◌++◌, length, get_or, set, sym, ap, subst, ◌∙◌, inl, inr, refl, arith}
 use Rattle.std.proofs.lemmas.Bool.{eq-eqb, ne_eqb, lt-ltb, le-ltb, cases_eq, cases_lt, cases_order, cases_Bool}
 use Rattle.std.proofs.lemmas.List.{get_or-set_same, get_or-set_other, length-set}
-use Rattle.tap_flows.specs.Rings.{AreLinked, times, AreRings, with_chain, AreAlone, unlinked_next, unlinked_previous, linked_next, linked_previous, moved_next, moved_previous}
+use Rattle.tap_ground.specs.Lists.{times}
+use Rattle.tap_flows.specs.Rings.{AreLinked, AreRings, with_chain, AreAlone, unlinked_next, unlinked_previous, linked_next, linked_previous, moved_next, moved_previous}
 
 -- what a place says of the next one, or of the previous one
 abbrev pub at : List ℕ → ℕ → ℕ

@@ -5,7 +5,8 @@ use Rattle.std.specs.FinMap.{get, insert, len}
 use Rattle.std.proofs.lemmas.Bool.{eq-eqb, cases_eq}
 use Rattle.tap_flows.specs.Flow.{Flow}
 use Rattle.tap_flows.specs.Flows.{IsNotBefore}
-use Rattle.tap_flows.specs.Rings.{times, with_chain, unlinked_next, unlinked_previous, linked_next, linked_previous, moved_next, moved_previous}
+use Rattle.tap_ground.specs.Lists.{times}
+use Rattle.tap_flows.specs.Rings.{with_chain, unlinked_next, unlinked_previous, linked_next, linked_previous, moved_next, moved_previous}
 use Rattle.tap_flows.specs.declared.heads.TheConstants.{CHAIN_HEADS}
 use Rattle.tap_flows.specs.Heads.{bucket_head, free_head}
 use Rattle.tap_flows.specs.Nodes.{flow_of, contents, kept_at, chain_home, age_home, time_of, IsRising, AreSound, IsSound}

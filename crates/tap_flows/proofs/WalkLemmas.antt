@@ -7,7 +7,8 @@ use Rattle.std.proofs.lemmas.Bool.{eq-eqb, ne_eqb, lt-ltb, le-ltb, cases_eq, cas
 use Rattle.std.proofs.lemmas.List.{get_or_past}
 use Rattle.tap_flows.specs.Flow.{Flow}
 use Rattle.tap_flows.specs.Flows.{forgotten, ticked}
-use Rattle.tap_flows.specs.Rings.{times, AreAlone, linked_next, linked_previous, with_chain}
+use Rattle.tap_ground.specs.Lists.{times}
+use Rattle.tap_flows.specs.Rings.{AreAlone, linked_next, linked_previous, with_chain}
 use Rattle.tap_flows.specs.declared.heads.TheConstants.{CHAIN_HEADS}
 use Rattle.tap_flows.specs.Heads.{bucket_head, free_head}
 use Rattle.tap_flows.specs.Nodes.{contents, kept_at, chain_home, age_home, time_of, AreDistinct, AreSound, IsSound, KeepsHash, KeepsIndex, KeepsStale, IsWalked, AreNone, AreFree}

@@ -1,17 +1,13 @@
 -- This project's own: nodes in rings that are linked both ways. The places below `nodes` are nodes, and
 -- each place from there on is the head of a ring, behind which the ring's nodes stand in order.
 use Rattle.std.specs.Prelude.{◌≡◌, ◌==◌, ℕ, ◌+◌, ◌<◌, ◌≤◌, if◌then◌else◌, List, [], ◌∷◌, length, slice_index, slice_set}
+use Rattle.tap_ground.specs.Lists.{times}
 
 -- from a place to another, with these between them, each names the next, and is named as its previous
 abbrev pub AreLinked : List ℕ → List ℕ → ℕ → List ℕ → ℕ → Type 0
 AreLinked next previous from [] to = (slice_index next from ≡ to) × (slice_index previous to ≡ from)
 AreLinked next previous from (node ∷ nodes) to =
     (slice_index next from ≡ node) × (slice_index previous node ≡ from) × AreLinked next previous node nodes to
-
--- how many times a node stands in a list
-abbrev pub times : ℕ → List ℕ → ℕ
-times node [] = 0
-times node (first ∷ others) = (if first == node then 1 else 0) + times node others
 
 -- the nodes behind each head are in its ring; each node whose home is a head stands there, once, and no
 -- other does

@@ -7,23 +7,31 @@ ghost use Rattle.tap_frame.specs.Text.{least_room};
 
 use crate::{Frame, Hdr, Name, Shape, least};
 use std::alloc::{AllocError, Global};
+use thiserror::Error;
 
 /// Why bytes spell no frame: the first case that holds, or want of memory.
-#[derive(Clone, Copy, Debug, PartialEq, Eq)]
+#[derive(Clone, Copy, Debug, PartialEq, Eq, Error)]
 pub enum BadFrame {
     /// The shape has packet information, and there are fewer than 4 bytes.
+    #[error("the packet information is cut short")]
     ShortPi,
     /// What stands behind the packet information is shorter than the header.
+    #[error("the header is cut short")]
     ShortHdr,
     /// The header reaches further than the bytes behind it.
+    #[error("the header reaches beyond the frame")]
     HdrBeyond,
     /// Fewer than 14 bytes stand behind the header.
+    #[error("fewer than 14 bytes behind the header")]
     ShortEther,
     /// The header reaches 1 to 13 bytes.
+    #[error("the header reaches fewer than 14 bytes")]
     HdrShort,
     /// More than 65,535 bytes stand behind the header.
+    #[error("more than 65,535 bytes behind the header")]
     TooLong,
     /// Memory ran out.
+    #[error("out of memory")]
     NoMemory,
 }
 

@@ -2,7 +2,8 @@
 use Rattle.std.proofs.Common.{◌≡◌, ℕ, ◌==◌, false, List, [], ◌∷◌, take, drop, refl}
 use Rattle.tap_frame.specs.Frame.{FrameValue}
 use Rattle.tap_ledger.specs.declared.mem_queue.MemQueue.TheInside.{Inside}
-use Rattle.tap_ledger.specs.Memory.{MemoryQueue, with_first_in_hand, prepared, one_more, found}
+use Rattle.tap_ground.specs.Counts.{one_more}
+use Rattle.tap_ledger.specs.Memory.{MemoryQueue, with_first_in_hand, prepared, found}
 use Rattle.tap_ledger.specs.MemoryRoom.{meaning}
 
 -- taking a frame in hand is no look

@@ -1,4 +1,5 @@
 pub mod Fate
+pub mod Refusals
 pub mod Counters
 pub mod Queue
 pub mod Host

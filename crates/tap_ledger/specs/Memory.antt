@@ -1,8 +1,9 @@
 -- This project's own: a queue and a host in memory.
-use Rattle.std.specs.Prelude.{ℕ, ◌+◌, ◌-◌, ◌^◌, ◌==◌, min, Bool, false, List, [], ◌∷◌, ◌++◌, length, take, drop, Some, None, if◌then◌else◌}
+use Rattle.std.specs.Prelude.{ℕ, ◌+◌, ◌-◌, ◌==◌, min, Bool, false, List, [], ◌∷◌, ◌++◌, length, take, drop, Some, None, if◌then◌else◌}
 use Rattle.std.specs.List.{list_any}
 use Rattle.tap_frame.specs.Frame.{FrameValue}
 use Rattle.tap_ledger.specs.Queue.{QueueState}
+use Rattle.tap_ground.specs.Counts.{one_more}
 
 -- a queue in memory
 pub record MemoryQueue : Type 0 where
@@ -40,10 +41,6 @@ empty_queue first unready most = record {
 -- the place of the first frame that isn't out
 abbrev pub front_place : MemoryQueue → ℕ
 front_place q = q.first + length q.queue.out
-
--- a count after one more, which stands still at the end of its type
-abbrev pub one_more : ℕ → ℕ
-one_more count = min (count + 1) (2 ^ 64 - 1)
 
 -- whether the next call is listed as one at which none is ready
 abbrev pub is_unready : MemoryQueue → Bool

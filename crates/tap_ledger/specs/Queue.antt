@@ -1,5 +1,5 @@
 -- This project's own: a queue of frames, from which one at a time is taken in hand.
-use Rattle.std.specs.Prelude.{◌≡◌, ℕ, ◌+◌, ◌-◌, ◌^◌, ◌≤◌, min, map, Bool, List, [], ◌∷◌, ◌++◌, Option, Some, None}
+use Rattle.std.specs.Prelude.{◌≡◌, ℕ, ◌+◌, ◌-◌, map, Bool, List, [], ◌∷◌, ◌++◌, Option, Some, None}
 use Rattle.std.specs.Option.{option_to_list}
 use Rattle.tap_frame.specs.declared.name.Name.{Name}
 use Rattle.tap_frame.specs.Frame.{FrameValue}
@@ -41,10 +41,6 @@ line queue = map (λ o. o.name) queue.out ++ (option_to_list queue.in_hand ++ ma
 -- the new frames are the old ones and perhaps more behind them
 abbrev pub Extends : List FrameValue → List FrameValue → Type 0
 Extends old new = (more : List FrameValue) × (new ≡ old ++ more)
-
--- a count rose, or stands at the end of its type
-abbrev pub Rose : ℕ → ℕ → Type 0
-Rose before now = min (before + 1) (2 ^ 64 - 1) ≤ now
 
 -- the frame that is handed out, if one is, and those behind it
 abbrev pub with_handed : Hand → List FrameValue → List FrameValue

@@ -4,7 +4,8 @@ ghost use Rattle.std.specs.Prelude.{◌≡◌, ◌≢◌, ◌<◌, ◌≤◌, �
 ghost use Rattle.std.specs.List.{list_any};
 ghost use Rattle.std.specs.Option.{option_to_list};
 ghost use Rattle.std.specs.VecDeque.{deque_len, deque_capacity};
-ghost use Rattle.tap_ledger.specs.Queue.{Extends, Rose, with_handed, name_handed, IfNotReady, put_back, finished, IsFinal};
+ghost use Rattle.tap_ground.specs.Counts.{Rose};
+ghost use Rattle.tap_ledger.specs.Queue.{Extends, with_handed, name_handed, IfNotReady, put_back, finished, IsFinal};
 ghost use Rattle.tap_ledger.specs.Memory.{empty_queue, front_place, prepared, called, with_first_in_hand, handed};
 
 use crate::{Fate, FrameQueue, Hand, OutFrame};

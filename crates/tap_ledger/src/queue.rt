@@ -1,7 +1,8 @@
 //! The queue from which a worker takes frames.
 
 ghost use Rattle.std.specs.Prelude.{◌≡◌, ◌≤◌, ◌↔◌, [], Some, None, true, IsTrue};
-ghost use Rattle.tap_ledger.specs.Queue.{QueueState, Extends, Rose, with_handed, name_handed, IfNotReady, put_back, finished, IsFinal};
+ghost use Rattle.tap_ground.specs.Counts.{Rose};
+ghost use Rattle.tap_ledger.specs.Queue.{QueueState, Extends, with_handed, name_handed, IfNotReady, put_back, finished, IsFinal};
 
 use crate::{Fate, Hand};
 use tap_frame::{Frame, Name};

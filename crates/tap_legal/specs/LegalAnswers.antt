@@ -15,7 +15,7 @@ use Rattle.scen_words.specs.declared.command.Command.{Command}
 use Rattle.scen_words.specs.declared.command.Command.TheVariants as command
 use Rattle.tap_trace.specs.declared.answer.Answer.{Answer}
 use Rattle.tap_trace.specs.declared.answer.Answer.TheVariants as answer
-use Rattle.tap_trace.specs.declared.causes.TapText.TheVariants.{EBADFD}
+use Rattle.tap_ledger.specs.declared.error.TapErr.TheVariants.{EBADFD}
 use Rattle.tap_world.specs.Frames.{Front, bad_in, ether_in, least_in, sent_bytes, sent_front, text_in}
 use Rattle.tap_world.specs.Setup.{frame_of}
 use Rattle.tap_legal.specs.Numbered.{AnswerAt, Asked, EntryAt, OpAt, PhaseAt, same_told}

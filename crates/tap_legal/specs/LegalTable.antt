@@ -14,9 +14,8 @@ use Rattle.scen_words.specs.declared.command.Command.{Command}
 use Rattle.scen_words.specs.declared.command.Command.TheVariants as command
 use Rattle.tap_trace.specs.declared.answer.Answer.{Answer}
 use Rattle.tap_trace.specs.declared.answer.Answer.TheVariants as answer
-use Rattle.tap_trace.specs.declared.causes.TapText.{TapText}
+use Rattle.tap_ledger.specs.declared.error.TapErr.{TapErr as TapText}
 use Rattle.tap_trace.specs.declared.causes.VhostText.TheVariants as text
-use Rattle.tap_world.specs.Causes.{tap_text}
 use Rattle.tap_world.specs.Frames.{Front, bad_in, ether_in}
 use Rattle.tap_world.specs.Setup.{op_of}
 use Rattle.tap_world.specs.StepBackend.{back_refusal, side_of}
@@ -83,7 +82,7 @@ is_answered c o =
 
 -- Each refusal of a table command is the table's at SEEN. A resize alone has a `resize` line.
 abbrev pub is_refusal : Case → ℕ → Op → TapText → Bool
-is_refusal c seen x e = option_map_or (λ r. same_refusal (tap_text r) e) (refuse (table_at c seen) x) false
+is_refusal c seen x e = option_map_or (λ r. same_refusal r e) (refuse (table_at c seen) x) false
 
 abbrev pub answers_op : Case → AnswerAt → Op → Answer → Bool
 answers_op c a x (answer.Tap e) = is_refusal c a.seen x e

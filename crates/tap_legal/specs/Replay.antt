@@ -23,13 +23,13 @@ use Rattle.tap_trace.specs.declared.kind.Kind.{Kind}
 use Rattle.tap_trace.specs.declared.kind.Kind.TheVariants as kind
 use Rattle.tap_trace.specs.declared.turn.ChainText.{ChainText}
 use Rattle.tap_trace.specs.declared.turn.TurnText.TheVariants as text
-use Rattle.tap_world.specs.Then.{◌>>=◌, only_if}
+use Rattle.tap_ground.specs.Options.{◌>>=◌, only_if}
 use Rattle.tap_world.specs.ByNumber.{at, with_at}
 use Rattle.tap_world.specs.Guests.{Vhost, is_ring, turn_of}
 use Rattle.tap_world.specs.Setup.{frame_of}
 use Rattle.tap_world.specs.World.{name_of}
 use Rattle.tap_world.specs.StepBackend.{back_answer, back_refusal, unfit_for}
-use Rattle.tap_world.specs.StepControl.{Call, call_of, may_call, peeked, poke_leaves, poke_told, vhost_of}
+use Rattle.tap_world.specs.StepControl.{Call, call_of, may_call, peeked, poke_leaves, poke_told, driven_vhost}
 use Rattle.tap_legal.specs.Numbered.{AnswerAt, EntryAt, OpAt, StepAt}
 use Rattle.tap_legal.specs.Served.{served_by}
 use Rattle.tap_legal.specs.Codes.{same_answer, same_kind}
@@ -114,7 +114,7 @@ abbrev pub vhost_named : Command → Option ℕ
 vhost_named (command.Backend vhost ring file) = Some vhost
 vhost_named (command.RxTurn vhost) = Some vhost
 vhost_named (command.TxTurn vhost) = Some vhost
-vhost_named other = vhost_of other
+vhost_named other = driven_vhost other
 
 -- a control call meets no turn on its ring; here turns are held by their commands
 abbrev pub replay_call : Case → StepAt → Command → Replay → Option Replay

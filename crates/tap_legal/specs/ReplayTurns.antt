@@ -23,7 +23,7 @@ use Rattle.tap_trace.specs.declared.answer.Answer.TheVariants as answer
 use Rattle.tap_trace.specs.declared.kind.Kind.{Kind}
 use Rattle.tap_trace.specs.declared.turn.ChainText.{ChainText}
 use Rattle.tap_trace.specs.declared.turn.TurnText.{TurnText}
-use Rattle.tap_world.specs.Then.{◌>>=◌}
+use Rattle.tap_ground.specs.Options.{◌>>=◌}
 use Rattle.tap_world.specs.ByNumber.{at, with_at}
 use Rattle.tap_world.specs.Guests.{Vhost, with_queue, with_turn}
 use Rattle.tap_world.specs.World.{name_of}

@@ -7,14 +7,14 @@ use Rattle.tap_ledger.specs.declared.side.Side.{Side}
 use Rattle.tap_ledger.specs.declared.side.Side.TheVariants.{Rx, Tx}
 use Rattle.tap_steer.specs.declared.operation.Op.{Op}
 use Rattle.tap_steer.specs.declared.operation.Op.TheVariants as op
-use Rattle.tap_trace.specs.declared.causes.Busy.{Busy}
-use Rattle.tap_trace.specs.declared.causes.Busy.TheVariants as busy
-use Rattle.tap_trace.specs.declared.causes.Invalid.{Invalid}
-use Rattle.tap_trace.specs.declared.causes.Invalid.TheVariants as invalid
-use Rattle.tap_trace.specs.declared.causes.TapText.{TapText}
-use Rattle.tap_trace.specs.declared.causes.TapText.TheVariants as text
-use Rattle.tap_trace.specs.declared.causes.TooBig.{TooBig}
-use Rattle.tap_trace.specs.declared.causes.TooBig.TheVariants as big
+use Rattle.tap_ledger.specs.declared.error.Busy.{Busy}
+use Rattle.tap_ledger.specs.declared.error.Busy.TheVariants as busy
+use Rattle.tap_ledger.specs.declared.error.Invalid.{Invalid}
+use Rattle.tap_ledger.specs.declared.error.Invalid.TheVariants as invalid
+use Rattle.tap_ledger.specs.declared.error.TapErr.{TapErr as TapText}
+use Rattle.tap_ledger.specs.declared.error.TapErr.TheVariants as text
+use Rattle.tap_ledger.specs.declared.error.TooBig.{TooBig}
+use Rattle.tap_ledger.specs.declared.error.TooBig.TheVariants as big
 
 -- ---- bad frames and refusals, by their numbers
 

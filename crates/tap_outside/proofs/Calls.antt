@@ -3,7 +3,7 @@ use Rattle.std.proofs.Common.{◌≡◌, ℕ, zero, suc, ◌+◌, ◌^◌, ◌<�
 use Rattle.std.specs.Prelude.{Contains, nat_lt, if◌then◌else◌}
 use Rattle.std.proofs.lemmas.Bool.{cases_lt, lt-ltb, le-ltb, eq-eqb, ne_eqb}
 use Rattle.std.proofs.lemmas.List.{length-take, take-append-drop, take_at}
-use Rattle.tap_outside.specs.Ends.{one_more}
+use Rattle.tap_ground.specs.Counts.{one_more}
 use Rattle.tap_outside.specs.Memory.{EndsWell, Supply, failed_calls, lists}
 
 -- a test as a number

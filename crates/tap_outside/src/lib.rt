@@ -7,8 +7,7 @@
 //! reader or writer in memory tells its bytes, a file or a terminal tells none and is trusted.
 //!
 //! What a call does to bytes is said in std's words (`Consumes`, `Appends`, `Keeps`).
-//! `specs/Ends.antt` has the count, and `specs/Memory.antt` and `specs/Standard.antt` what these
-//! ends are to a contract.
+//! `specs/Memory.antt` and `specs/Standard.antt` say what these ends are to a contract.
 #![tactic(auto)]
 
 mod memory;

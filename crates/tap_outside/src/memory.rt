@@ -1,7 +1,7 @@
 //! A source and a sink in memory, which tell their bytes and fail at listed calls.
 
 ghost use Rattle.std.specs.Prelude.{◌≡◌, ℕ, ◌+◌, ◌^◌, ◌<◌, ◌≤◌, ◌↔◌, List, [], ◌∷◌, ◌++◌, length, take, drop, min, Some, IfOk, OnOk, IsErr, OnErr, IsErrOf, IsOkAnd, IsTrue, Contains};
-ghost use Rattle.tap_outside.specs.Ends.{one_more};
+ghost use Rattle.tap_ground.specs.Counts.{one_more};
 ghost use Rattle.tap_outside.specs.Memory.{EndsWell, failed_calls};
 
 use crate::{Failed, Sink, SinkErr, Source};

@@ -3,16 +3,19 @@
 ghost use Rattle.std.specs.Prelude.{◌≡◌, ℕ, ◌<◌, ◌≤◌, List, length, take, Option, IfOk, OnOk, OnErr, IsErrOf};
 ghost use Rattle.std.specs.Io.KnownBytes.{Appends, Keeps};
 ghost use Rattle.tap_outside.specs.declared.sink.SinkErr.TheVariants.{NoMemory};
-ghost use Rattle.tap_outside.specs.Ends.{one_more};
+ghost use Rattle.tap_ground.specs.Counts.{one_more};
 
 use std::alloc::AllocError;
+use thiserror::Error;
 
 /// Why a sink took nothing.
-#[derive(Clone, Copy, Debug, PartialEq, Eq)]
+#[derive(Clone, Copy, Debug, PartialEq, Eq, Error)]
 pub enum SinkErr {
     /// The sink failed.
+    #[error("the sink failed")]
     Failed,
     /// Memory ran out.
+    #[error("out of memory")]
     NoMemory,
 }
 

@@ -2,10 +2,13 @@
 
 ghost use Rattle.std.specs.Prelude.{◌≡◌, ℕ, ◌<◌, ◌≤◌, List, length, take, Option, IfOk, OnOk, OnErr, IsOkAnd};
 ghost use Rattle.std.specs.Io.KnownBytes.{Consumes, IsAtEnd, Keeps};
-ghost use Rattle.tap_outside.specs.Ends.{one_more};
+ghost use Rattle.tap_ground.specs.Counts.{one_more};
+
+use thiserror::Error;
 
 /// A source or a sink failed.
-#[derive(Clone, Copy, Debug, PartialEq, Eq)]
+#[derive(Clone, Copy, Debug, PartialEq, Eq, Error)]
+#[error("the source or the sink failed")]
 pub struct Failed;
 
 /// What gives bytes, in pieces of its own choice, up to its end.

@@ -2,7 +2,7 @@
 
 ghost use Rattle.std.specs.Prelude.{◌≡◌, ◌<◌, ◌≤◌, length, take, IfOk, OnOk, OnErr, IsErrOf};
 ghost use Rattle.std.specs.Io.KnownBytes.{Appends, Consumes, IsAtEnd, Keeps};
-ghost use Rattle.tap_outside.specs.Ends.{one_more};
+ghost use Rattle.tap_ground.specs.Counts.{one_more};
 
 use crate::{Failed, Sink, SinkErr, Source};
 use std::io;

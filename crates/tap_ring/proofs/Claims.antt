@@ -18,7 +18,7 @@ use Rattle.tap_ring.specs.declared.rule.Plan.{Plan}
 use Rattle.tap_ring.specs.Moments.{HasRoom, gate_of, capacity_at}
 use Rattle.tap_ring.specs.Standing.{RingState, Placing, Standing, slots_of, slot_at, word_at, IsEntered, IsPlace, Knows, Ring, times}
 use Rattle.tap_ring.specs.Steps.{Seated, claim, with_claim, seen_gate, Exchanges}
-use Rattle.tap_ring.proofs.Kit.{off, some_not_none, some_is, set_there, parts_equal, past_stays, entered_longer, each_append, each_map, total_set, times-append, within_more, slots_apart}
+use Rattle.tap_ring.proofs.Kit.{off, some_not_none, some_is, set_there, parts_equal, past_stays, mets_stay, entered_longer, each_append, each_map, total_set, times-append, within_more, slots_apart}
 use Rattle.tap_ring.proofs.Counts.{turns_claim, sizes_same}
 use Rattle.tap_ring.proofs.Stays.{Apart, seats_set, place_stays, word_same, home_same, frames_front}
 use Rattle.tap_ring.proofs.Loads.{past_now, new_now, hand_set, looked, gate_knows}
@@ -102,6 +102,7 @@ module _ (plan : Plan) where
         epoch = le_refl r.h.now.epoch;
         resizes = le_refl r.h.now.resizes;
         caps = λ k _. caps_apart s.words 0 n k (omega arith);
+        shut = λ _ e. e;
       };
       more = record { by = by; claim = c } ∷ [];
       log = refl;
@@ -110,7 +111,7 @@ module _ (plan : Plan) where
       keeper = refl;
       front = λ _. (refl, refl, (λ e. place_word r.h.lifted ∙ e));
       gate = λ _. (refl, refl, refl, (λ e. absurd (off (sym unshut ∙ e))), (λ _. caps_apart s.words 0 n (r.h.now.resizes + 1) (omega arith)));
-      turns = λ _. (refl, refl);
+      turns = λ _. (refl, refl, refl);
       given = λ _ _ e. e;
       putting = λ j d ne e low word. (low, subst (λ m. m ≤ d.place) (sym (place_word d.place)) word);
     }
@@ -161,6 +162,7 @@ module _ (plan : Plan) where
           gate = λ _. past_stays s.words s'.words r.h.now h'.now r.h.now others.goes (past_now plan s r);
           asked = λ t. past_stays s.words s'.words r.h.now h'.now v.asked others.goes (k.asked t);
           room = λ t. past_stays s.words s'.words r.h.now h'.now v.room others.goes (k.room t);
+          met = mets_stay s.words s'.words r.h.now h'.now v.met others.goes k.met;
         }
 
     pub claimed_ring : Ring plan s'
@@ -184,6 +186,7 @@ module _ (plan : Plan) where
           below = r.below;
           behind = omega (arith, behind);
           ahead = subst (λ m. q + 1 ≤ r.h.now.freed + m) (sym slots) (let e = in_window in omega (arith, e));
+          room = let x = room in inl (omega (arith, x));
           long = let l = r.long in let a = length-append r.h.log (record { by = by; claim = c } ∷ []) in omega (arith, l, a);
           turns = turns_claim plan.first q r.h.now.epoch r.h.log r.h.opened (record { by = by; claim = c }) r.long epoch r.turns;
           sizes = sizes_same plan.capacity s.words s'.words r.h.now.resizes r.h.resized others.goes.caps r.sizes;

@@ -1,5 +1,5 @@
 -- What the rule says once all producers' claims are with the consumer's seat: whose each place is, and what lies in each slot.
-use Rattle.std.proofs.Common.{◌≡◌, ◌≢◌, ◌⊎◌, ℕ, zero, suc, ◌+◌, ◌-◌, ◌%◌, ◌≤◌, ◌<◌, eqb, List, [], ◌∷◌, ◌++◌, take, drop, length, Some, None, Option, true, false, refl, sym, ap, ◌∙◌, subst, ⊎_elim, arith, length-append, length-drop, take-append-drop, mod-lt}
+use Rattle.std.proofs.Common.{◌≡◌, ◌≢◌, ◌⊎◌, ℕ, zero, suc, ◌+◌, ◌-◌, ◌%◌, ◌≤◌, ◌<◌, eqb, List, [], ◌∷◌, ◌++◌, take, drop, length, Some, None, Option, true, false, refl, sym, ap, ◌∙◌, subst, ⊎_elim, le_refl, arith, length-append, length-drop, take-append-drop, mod-lt}
 use Rattle.std.specs.Prelude.{slice_index, slice_index_or, Contains}
 use Rattle.std.proofs.lemmas.Bool.Decides.{eqb_tells}
 use Rattle.std.proofs.lemmas.List.{length-map}
@@ -13,13 +13,14 @@ use Rattle.tap_ring.specs.declared.rule.Claim.{Claim}
 use Rattle.tap_ring.specs.declared.rule.View.{View}
 use Rattle.tap_ring.specs.declared.rule.Plan.{Plan}
 use Rattle.tap_ring.specs.GateWord.{claimed_of}
-use Rattle.tap_ring.specs.Turns.{turns_to, EachGiven}
+use Rattle.tap_ring.specs.Turns.{turns_to, IsGiven, EachGiven}
 use Rattle.tap_ring.specs.Standing.{RingState, Placing, slots_of, home_at, IsEntered, IsReady, IsClaimed, IsInHand, EachClaim, KnowsFront, Ring, frames_of, times, total, within}
 use Rattle.tap_ring.specs.Steps.{with_producer, with_keeper}
 use Rattle.tap_ring.specs.Calls.{Token}
-use Rattle.tap_ring.specs.Finish.{StandsIn, AllClaims, AllGiven, EpochsNeverFall, IsEnd, claims_of, claims_to}
+use Rattle.tap_ring.specs.Moments.{KeepsRoom, IsPast, EachPast, IsBefore, capacity_at}
+use Rattle.tap_ring.specs.Finish.{StandsIn, AllClaims, AllGiven, AllBefore, EpochsNeverFall, IsEnd, claims_of, claims_to}
 use Rattle.tap_ring.specs.Leaving.{present, slots_from, gathered}
-use Rattle.tap_ring.proofs.Kit.{some_not_none, before_end, each_append, each_map, times-append}
+use Rattle.tap_ring.proofs.Kit.{some_not_none, before_end, each_append, each_map, times-append, mets_parts}
 use Rattle.tap_ring.proofs.Counts.{turns_rise, given_parts}
 use Rattle.tap_ring.proofs.Lines.{get_drop, slice_there, map_there, rotated, present_is}
 use Rattle.tap_ring.proofs.Causes.{word_parts}
@@ -101,13 +102,37 @@ gathered_front v [] = (refl, refl, refl, refl, refl, refl)
 gathered_front v (t ∷ ts) = gathered_front v ts
 
 -- and the keeper's
-gathered_gate : (v : View) (all : List Token) → ((gathered v all).keeps ≡ v.keeps) × ((gathered v all).gate ≡ v.gate) × ((gathered v all).spent ≡ v.spent) × ((gathered v all).opened ≡ v.opened) × ((gathered v all).resized ≡ v.resized)
-gathered_gate v [] = (refl, refl, refl, refl, refl)
+gathered_gate : (v : View) (all : List Token) → ((gathered v all).keeps ≡ v.keeps) × ((gathered v all).gate ≡ v.gate) × ((gathered v all).spent ≡ v.spent) × ((gathered v all).opened ≡ v.opened) × ((gathered v all).resized ≡ v.resized) × ((gathered v all).resized_from ≡ v.resized_from)
+gathered_gate v [] = (refl, refl, refl, refl, refl, refl)
 gathered_gate v (t ∷ ts) = gathered_gate v ts
 
 pub gathered_snoc : (v : View) (all : List Token) (t : Token) → gathered v (all ++ t ∷ []) ≡ gathered (with_producer v t.view) all
 gathered_snoc v [] t = refl
 gathered_snoc v (x ∷ xs) t = ap (λ (y : View). with_producer y x.view) (gathered_snoc v xs t)
+
+-- what each producer saw lies behind
+before_of : (ws : List ℕ) (now m last : Moment) (claimed freed : ℕ) → now.claimed ≡ claimed → now.freed ≡ freed → now.epoch ≡ last.epoch → now.resizes ≡ last.resizes → now.shut ≡ last.shut
+    → IsPast ws now m → IsBefore claimed freed last m
+before_of ws now m last claimed freed a b c d e p =
+    let pa = p.claimed in
+    let pb = p.freed in
+    let pc = p.epoch in
+    let pd = p.resizes in
+    record {
+      claimed = omega (arith, a, pa);
+      freed = omega (arith, b, pb);
+      epoch = omega (arith, c, pc);
+      resizes = omega (arith, d, pd);
+      shut = λ same shut. sym e ∙ p.shut (same ∙ sym c) shut;
+    }
+
+gathered_seen : (ws : List ℕ) (now last : Moment) (claimed freed : ℕ) → now.claimed ≡ claimed → now.freed ≡ freed → now.epoch ≡ last.epoch → now.resizes ≡ last.resizes → now.shut ≡ last.shut
+    → (v : View) (all : List Token) → EachPast ws now (gathered v all).met → AllBefore claimed freed last all
+gathered_seen ws now last claimed freed a b c d e v [] past = tt
+gathered_seen ws now last claimed freed a b c d e v (t ∷ ts) past =
+    let r = mets_parts ws now (gathered v ts).met (t.view.gate ∷ t.view.asked ∷ t.view.room ∷ t.view.met) past in
+    let is : (m : Moment) → IsPast ws now m → IsBefore claimed freed last m = λ m. before_of ws now m last claimed freed a b c d e in
+    ((is t.view.gate r.1.0, is t.view.asked r.1.1.0, is t.view.room r.1.1.1.0), gathered_seen ws now last claimed freed a b c d e v ts r.0)
 
 -- ---- the end
 
@@ -252,6 +277,12 @@ ended plan words slots id n claimed v k w all final count is parts takes_is empt
     let lists = (r.seats id w at).turns keeps_w in
     let opened_k : r.h.opened ≡ k.opened = sym lists.0 ∙ ap (λ (x : View). x.opened) is ∙ q.3 in
     let resized_k : r.h.resized ≡ k.resized = sym lists.1 ∙ ap (λ (x : View). x.resized) is ∙ q.4 in
+    let from_k : r.h.resized_from ≡ k.resized_from = sym lists.2 ∙ ap (λ (x : View). x.resized_from) is ∙ q.5 in
+    let resizes_k : r.h.now.resizes ≡ k.gate.resizes = sym kept.resizes ∙ ap (λ (m : Moment). m.resizes) gate_w in
+    let capacity_k : capacity_at s.words k.gate.resizes ≡ k.gate.capacity =
+    subst (λ (m : Moment). capacity_at s.words m.resizes ≡ m.capacity) gate_w ((r.seats id w at).gate live_w).capacity in
+    let now_capacity : r.h.now.capacity ≡ k.gate.capacity = sym r.capacity ∙ ap (capacity_at s.words) resizes_k ∙ capacity_k in
+    let now_freed : r.h.now.freed ≡ v.freed = sym ((r.seats id w at).front takes_w).freed ∙ freed_w in
     let epochs : AllClaims (λ x. x.epoch ≡ turns_to x.place k.opened) all =
     gathered_claims (λ x. x.epoch ≡ turns_to x.place k.opened) (with_keeper v k) all
     (subst (λ (x : List ℕ × View). EachClaim (λ c. c.epoch ≡ turns_to c.place x.0) x.1.mine) (λ i. (opened_k i, is i))
@@ -278,6 +309,12 @@ ended plan words slots id n claimed v k w all final count is parts takes_is empt
       rising = epochs_rise k.opened all epochs;
       capacities = gathered_given plan.capacity k.resized (with_keeper v k) all
           (subst (λ (x : List ℕ × View). EachGiven plan.capacity x.0 x.1.loaded) (λ i. (resized_k i, is i)) (r.seats id w at).sizes);
+      seen = gathered_seen s.words r.h.now k.gate claimed v.freed (sym now) now_freed
+          (sym kept.epoch ∙ ap (λ (m : Moment). m.epoch) gate_w) resizes_k (sym kept.shut ∙ ap (λ (m : Moment). m.shut) gate_w)
+          (with_keeper v k) all (subst (λ (x : View). EachPast s.words r.h.now x.met) is (r.seats id w at).met);
+      last_capacity = subst (λ (x : List ℕ × ℕ × ℕ). IsGiven plan.capacity x.0 x.1 x.2) (λ i. (resized_k i, resizes_k i, (r.capacity ∙ now_capacity) i))
+          (r.sizes.given r.h.now.resizes (le_refl r.h.now.resizes));
+      room = subst (λ (x : ℕ × ℕ × ℕ × ℕ). KeepsRoom x.0 x.1 x.2 x.3) (λ i. (sym now i, now_freed i, now_capacity i, from_k i)) r.room;
       order = (omega (arith, c2, freed_w), omega (arith, c3, freed_w, next_w), omega (arith, c4, next_w, now));
       turns = (
         ap (λ (m : Moment). m.epoch) (sym gate_w) ∙ kept.epoch ∙ r.turns.count ∙ ap length opened_k,

@@ -1,5 +1,5 @@
 -- The consumer's addition to the freed count.
-use Rattle.std.proofs.Common.{◌≡◌, ◌≢◌, ℕ, ◌+◌, ◌^◌, ◌%◌, ◌≤◌, ◌<◌, eqb, [], set, true, false, refl, sym, ap, ◌∙◌, subst, ⊎_elim, le_refl, arith, append-nil, length-set, get_or-set_same, get_or-set_other}
+use Rattle.std.proofs.Common.{◌≡◌, ◌≢◌, ℕ, ◌+◌, ◌^◌, ◌%◌, ◌≤◌, ◌<◌, eqb, [], set, true, false, refl, sym, ap, ◌∙◌, subst, ⊎_elim, inl, inr, le_refl, arith, append-nil, length-set, get_or-set_same, get_or-set_other}
 use Rattle.std.specs.Prelude.{slice_index}
 use Rattle.std.proofs.lemmas.Bool.Decides.{eqb_tells}
 use mathlib.Core.Option.{none, some}
@@ -10,7 +10,7 @@ use Rattle.tap_ring.specs.declared.rule.View.{View}
 use Rattle.tap_ring.specs.declared.rule.Plan.{Plan}
 use Rattle.tap_ring.specs.Standing.{RingState, Standing, slots_of, slot_at, word_at, IsPlace, KnowsFront, Knows, Ring, times}
 use Rattle.tap_ring.specs.Steps.{Seated, Frees}
-use Rattle.tap_ring.proofs.Kit.{past_stays, total_set}
+use Rattle.tap_ring.proofs.Kit.{past_stays, mets_stay, total_set}
 use Rattle.tap_ring.proofs.Counts.{sizes_same}
 use Rattle.tap_ring.proofs.Stays.{Apart, seats_set, place_stays}
 use Rattle.tap_ring.proofs.Loads.{still_set, hand_set}
@@ -72,6 +72,7 @@ module _ (plan : Plan) where
         epoch = le_refl r.h.now.epoch;
         resizes = le_refl r.h.now.resizes;
         caps = λ k _. caps_apart plan s.words 1 n k (omega arith);
+        shut = λ _ e. e;
       };
       more = [];
       log = sym (append-nil r.h.log);
@@ -80,7 +81,7 @@ module _ (plan : Plan) where
       keeper = refl;
       front = λ ne. absurd (ne (sym ffront.own));
       gate = λ _. (refl, refl, refl, (λ _. refl), (λ _. caps_apart plan s.words 1 n (r.h.now.resizes + 1) (omega arith)));
-      turns = λ _. (refl, refl);
+      turns = λ _. (refl, refl, refl);
       given = λ _ _ e. e;
       putting = λ j c ne e le m. (le, subst (λ z. z ≤ c.place) (sym (fplace_word c.place)) m);
     }
@@ -115,6 +116,7 @@ module _ (plan : Plan) where
       gate = λ t. past_stays s.words fs.words r.h.now fh.now v.gate fothers.goes (fknows.gate t);
       asked = λ t. past_stays s.words fs.words r.h.now fh.now v.asked fothers.goes (fknows.asked t);
       room = λ t. past_stays s.words fs.words r.h.now fh.now v.room fothers.goes (fknows.room t);
+      met = mets_stay s.words fs.words r.h.now fh.now v.met fothers.goes fknows.met;
     }
 
     pub freed_ring : Ring plan fs
@@ -136,6 +138,10 @@ module _ (plan : Plan) where
           behind = r.behind;
           ahead = omega (arith, ahead);
           long = r.long;
+          room = ⊎_elim
+              (λ (t : r.h.now.claimed ≤ r.h.now.freed + r.h.now.capacity). inl (omega (arith, t)))
+              (λ (t : r.h.now.claimed ≡ r.h.resized_from). inr t)
+              r.room;
           turns = r.turns;
           sizes = sizes_same plan.capacity s.words fs.words r.h.now.resizes r.h.resized fothers.goes.caps r.sizes;
           places = λ p a b. ⊎_elim

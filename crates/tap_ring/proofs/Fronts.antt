@@ -77,7 +77,7 @@ module _ (plan : Plan) where
       keeper = refl;
       front = λ _. (refl, refl, (λ e. place_word q ∙ e));
       gate = λ _. (refl, refl, refl, (λ _. refl), (λ _. refl));
-      turns = λ _. (refl, refl);
+      turns = λ _. (refl, refl, refl);
       given = λ _ _ e. e;
       putting = λ j c ne e le m. (le, subst (λ z. z ≤ c.place) (sym (place_word c.place)) m);
     }
@@ -114,6 +114,7 @@ module _ (plan : Plan) where
       gate = knows.gate;
       asked = knows.asked;
       room = knows.room;
+      met = knows.met;
     }
 
     pub taken_ring : Ring plan s'
@@ -131,6 +132,7 @@ module _ (plan : Plan) where
       behind = r.behind;
       ahead = subst (λ m. r.h.now.claimed ≤ r.h.now.freed + m) (sym slots) r.ahead;
       long = r.long;
+      room = r.room;
       turns = r.turns;
       sizes = r.sizes;
       places = λ p a b. ⊎_elim
@@ -229,6 +231,7 @@ module _ (plan : Plan) where
           gate = k.gate;
           asked = k.asked;
           room = k.room;
+          met = k.met;
         })),
         (i_is, subst (λ (b : Bool). MatchBool b (Ready v n found (w, v.1)) (Unready v found (w, v.1))) (sym t.0) (refl, refl)),
       ))

@@ -1,5 +1,5 @@
 -- The steps of the keeper: shut, reopen, the store of a capacity, and the addition to the number of resizes.
-use Rattle.std.proofs.Common.{◌≡◌, ◌≢◌, ℕ, ◌+◌, ◌^◌, ◌%◌, ◌≤◌, ◌<◌, List, [], ◌∷◌, ◌++◌, set, Some, None, Option, Bool, true, false, refl, sym, ap, ◌∙◌, subst, le_refl, arith, append-nil, length-set, get_or-set_same, get_or-set_other}
+use Rattle.std.proofs.Common.{◌≡◌, ◌≢◌, ℕ, ◌+◌, ◌^◌, ◌%◌, ◌≤◌, ◌<◌, List, [], ◌∷◌, ◌++◌, set, Some, None, Option, Bool, true, false, refl, sym, ap, ◌∙◌, subst, inr, le_refl, arith, append-nil, length-set, get_or-set_same, get_or-set_other}
 use Rattle.std.specs.Prelude.{slice_index, slice_set}
 use mathlib.Core.Option.{none, some}
 use lib.ListN.{get_elem?}
@@ -9,11 +9,11 @@ use Rattle.tap_ring.specs.declared.rule.Loaded.{Loaded}
 use Rattle.tap_ring.specs.declared.rule.View.{View}
 use Rattle.tap_ring.specs.declared.rule.Plan.{Plan}
 use Rattle.tap_ring.specs.GateWord.{gate_word}
-use Rattle.tap_ring.specs.Moments.{Fits, gate_of, capacity_at}
+use Rattle.tap_ring.specs.Moments.{Fits, KeepsRoom, gate_of, capacity_at}
 use Rattle.tap_ring.specs.Turns.{EachGiven}
 use Rattle.tap_ring.specs.Standing.{RingState, Standing, slots_of, slot_at, word_at, CountsTurns, CountsSizes, Knows, Ring, times}
 use Rattle.tap_ring.specs.Steps.{Seated, seen_gate, Shuts, Reopens, Stores, Resizes, IsKept, shut_at, reopened_at, resized_at, with_turn, with_resize}
-use Rattle.tap_ring.proofs.Kit.{off, on, some_not_none, some_is, GoesOn, past_stays, total_set}
+use Rattle.tap_ring.proofs.Kit.{off, on, some_not_none, some_is, GoesOn, past_stays, mets_stay, total_set}
 use Rattle.tap_ring.proofs.Counts.{turns_reopen, sizes_same, sizes_more, given_more}
 use Rattle.tap_ring.proofs.Stays.{Apart, seats_set, place_stays}
 use Rattle.tap_ring.proofs.Loads.{new_now, still_set, hand_set}
@@ -23,24 +23,25 @@ module _ (plan : Plan) where
   -- ---- the gate word changes
 
   module _ (s : RingState) (r : Ring plan s) (by : ℕ) (v : View) (n : ℕ) (at : get_elem? s.views by ≡ some v) (keeps_is : v.keeps ≡ true)
-      (shut : Bool) (epoch resizes capacity : ℕ) (opened resized : List ℕ) (stored : Option ℕ)
-      (later_epoch : r.h.now.epoch ≤ epoch) (later_resizes : r.h.now.resizes ≤ resizes) (few_epochs : epoch < 2 ^ 16) (few_resizes : resizes < 2 ^ 7)
+      (shut : Bool) (epoch resizes capacity : ℕ) (opened resized : List ℕ) (resized_from : ℕ) (stored : Option ℕ)
+      (later_epoch : r.h.now.epoch ≤ epoch) (stays_shut : r.h.now.epoch ≡ epoch → r.h.now.shut ≡ true → shut ≡ true) (later_resizes : r.h.now.resizes ≤ resizes) (few_epochs : epoch < 2 ^ 16) (few_resizes : resizes < 2 ^ 7)
       (stands : capacity_at s.words resizes ≡ capacity) (small : capacity ≤ slots_of s)
       (next : (c : ℕ) → stored ≡ Some c → (resizes + 1 < 2 ^ 7) × (capacity_at s.words (resizes + 1) ≡ c) × (c ≤ slots_of s))
       (turns_are : CountsTurns plan.first r.h.now.claimed epoch r.h.log opened) (sizes_are : CountsSizes plan.capacity s.words resizes resized)
       (given_still : (first : ℕ) (xs : List Loaded) → EachGiven first r.h.resized xs → EachGiven first resized xs)
+      (room_is : KeepsRoom r.h.now.claimed r.h.now.freed capacity resized_from)
       (word : n ≡ gate_of (record r.h.now { shut = shut; epoch = epoch; resizes = resizes; capacity = capacity })) where
     abbrev m : Moment
     m = record r.h.now { shut = shut; epoch = epoch; resizes = resizes; capacity = capacity }
 
     abbrev w : View
-    w = record (seen_gate m v) { opened = opened; resized = resized; stored = stored }
+    w = record (seen_gate m v) { opened = opened; resized = resized; resized_from = resized_from; stored = stored }
 
     abbrev s' : RingState
     s' = record { words = set s.words 0 n; homes = s.homes; views = set s.views by w }
 
     abbrev h' : Standing
-    h' = record r.h { now = m; opened = opened; resized = resized }
+    h' = record r.h { now = m; opened = opened; resized = resized; resized_from = resized_from }
 
     knows : Knows plan s r.h by v
     knows = r.seats by v at
@@ -58,6 +59,7 @@ module _ (plan : Plan) where
       epoch = later_epoch;
       resizes = later_resizes;
       caps = λ k _. caps_apart plan s.words 0 n k (omega arith);
+      shut = stays_shut;
     }
 
     others : Apart plan.first s s' r.h h' by
@@ -103,7 +105,7 @@ module _ (plan : Plan) where
         claimed = λ _. refl;
         stored = λ c is. let z = next c is in (z.0, caps_apart plan s.words 0 n (resizes + 1) (omega arith) ∙ z.1, z.2);
       };
-      turns = λ _. (refl, refl);
+      turns = λ _. (refl, refl, refl);
       sizes = given_still plan.capacity v.loaded knows.sizes;
       gate = λ _. record {
         fits = fits_now;
@@ -112,9 +114,11 @@ module _ (plan : Plan) where
         epoch = le_refl m.epoch;
         resizes = le_refl m.resizes;
         capacity = caps_apart plan s.words 0 n resizes (omega arith) ∙ stands;
+        shut = λ _ e. e;
       };
       asked = λ t. past_stays s.words s'.words r.h.now m v.asked goes (knows.asked t);
       room = λ t. past_stays s.words s'.words r.h.now m v.room goes (knows.room t);
+      met = mets_stay s.words s'.words r.h.now m v.met goes knows.met;
     }
 
     pub gated_ring : Ring plan s'
@@ -134,6 +138,7 @@ module _ (plan : Plan) where
           behind = r.behind;
           ahead = r.ahead;
           long = r.long;
+          room = room_is;
           turns = turns_are;
           sizes = sizes_same plan.capacity s.words s'.words resizes resized (λ k _. caps_apart plan s.words 0 n k (omega arith)) sizes_are;
           places = λ p a b. place_stays plan.first s s' r.h h' p [] (sym (append-nil r.h.log)) (place_word p) refl (λ t. t) (λ t. t) (λ t. t) (λ t. t)
@@ -160,6 +165,9 @@ module _ (plan : Plan) where
   kept_given : (s : RingState) (r : Ring plan s) (by : ℕ) (v : View) → Knows plan s r.h by v → v.keeps ≡ true → (first : ℕ) (xs : List Loaded) → EachGiven first r.h.resized xs → EachGiven first v.resized xs
   kept_given s r by v k keeps_is first xs e = subst (λ l. EachGiven first l xs) (sym (k.turns keeps_is).1) e
 
+  kept_room : (s : RingState) (r : Ring plan s) (by : ℕ) (v : View) → Knows plan s r.h by v → v.keeps ≡ true → KeepsRoom r.h.now.claimed r.h.now.freed r.h.now.capacity v.resized_from
+  kept_room s r by v k keeps_is = subst (KeepsRoom r.h.now.claimed r.h.now.freed r.h.now.capacity) (sym (k.turns keeps_is).2) r.room
+
   -- adding the shut bit to the word of an open gate shuts it
   shut_word : (claimed epoch resizes : ℕ) (shut : Bool) → shut ≡ false → claimed < 2 ^ 40 → epoch < 2 ^ 16 → resizes < 2 ^ 7 → (gate_word claimed shut epoch resizes + 2 ^ 40) % 2 ^ 64 ≡ gate_word claimed true epoch resizes
   shut_word claimed epoch resizes true e a b c = absurd (on e)
@@ -184,8 +192,8 @@ module _ (plan : Plan) where
         seen_gate (shut_at now) v.0,
         keeps,
         tt,
-        gated_ring s r by v.0 ((slice_index s.words 0 + 2 ^ 40) % 2 ^ 64) at keeps_is true now.epoch now.resizes now.capacity v.0.opened v.0.resized v.0.stored (le_refl now.epoch) (le_refl now.resizes) r.fits.epoch r.fits.resizes r.capacity r.small g.stored
-            (kept_turns s r by v.0 k keeps_is) (kept_sizes s r by v.0 k keeps_is) (kept_given s r by v.0 k keeps_is) is,
+        gated_ring s r by v.0 ((slice_index s.words 0 + 2 ^ 40) % 2 ^ 64) at keeps_is true now.epoch now.resizes now.capacity v.0.opened v.0.resized v.0.resized_from v.0.stored (le_refl now.epoch) (λ _ _. refl) (le_refl now.resizes) r.fits.epoch r.fits.resizes r.capacity r.small g.stored
+            (kept_turns s r by v.0 k keeps_is) (kept_sizes s r by v.0 k keeps_is) (kept_given s r by v.0 k keeps_is) (kept_room s r by v.0 k keeps_is) is,
         (now, r.gate, kept_now s r by v.0 live k keeps_is, refl, refl),
       )
 
@@ -201,8 +209,8 @@ module _ (plan : Plan) where
         with_turn now v.0,
         keeps,
         tt,
-        gated_ring s r by v.0 ((slice_index s.words 0 + 2 ^ 40) % 2 ^ 64) at keeps_is false (now.epoch + 1) now.resizes now.capacity (v.0.opened ++ now.claimed ∷ []) v.0.resized v.0.stored (omega arith) (le_refl now.resizes) few_now r.fits.resizes r.capacity r.small g.stored
-            (turns_reopen plan.first now.claimed now.epoch r.h.log v.0.opened r.long (kept_turns s r by v.0 k keeps_is)) (kept_sizes s r by v.0 k keeps_is) (kept_given s r by v.0 k keeps_is) is,
+        gated_ring s r by v.0 ((slice_index s.words 0 + 2 ^ 40) % 2 ^ 64) at keeps_is false (now.epoch + 1) now.resizes now.capacity (v.0.opened ++ now.claimed ∷ []) v.0.resized v.0.resized_from v.0.stored (omega arith) (λ e. absurd (omega (arith, e))) (le_refl now.resizes) few_now r.fits.resizes r.capacity r.small g.stored
+            (turns_reopen plan.first now.claimed now.epoch r.h.log v.0.opened r.long (kept_turns s r by v.0 k keeps_is)) (kept_sizes s r by v.0 k keeps_is) (kept_given s r by v.0 k keeps_is) (kept_room s r by v.0 k keeps_is) is,
         (now, r.gate, kept_now s r by v.0 live k keeps_is, refl, refl),
       )
 
@@ -217,9 +225,9 @@ module _ (plan : Plan) where
         with_resize c now v.0,
         keeps,
         tt,
-        gated_ring s r by v.0 ((slice_index s.words 0 + 2 ^ 57) % 2 ^ 64) at keeps_is now.shut now.epoch (now.resizes + 1) c v.0.opened (v.0.resized ++ c ∷ []) None (le_refl now.epoch) (omega arith) r.fits.epoch z.0 z.1 z.2 (λ d e. absurd (some_not_none d (sym e)))
+        gated_ring s r by v.0 ((slice_index s.words 0 + 2 ^ 57) % 2 ^ 64) at keeps_is now.shut now.epoch (now.resizes + 1) c v.0.opened (v.0.resized ++ c ∷ []) now.claimed None (le_refl now.epoch) (λ _ e. e) (omega arith) r.fits.epoch z.0 z.1 z.2 (λ d e. absurd (some_not_none d (sym e)))
             (kept_turns s r by v.0 k keeps_is) (sizes_more plan.capacity s.words now.resizes c v.0.resized z.1 (kept_sizes s r by v.0 k keeps_is))
-            (λ first xs e. given_more first v.0.resized (c ∷ []) xs (kept_given s r by v.0 k keeps_is first xs e)) is,
+            (λ first xs e. given_more first v.0.resized (c ∷ []) xs (kept_given s r by v.0 k keeps_is first xs e)) (inr refl) is,
         (now, r.gate, kept_now s r by v.0 live k keeps_is, (c, stored, refl), refl),
       )
 
@@ -255,6 +263,7 @@ module _ (plan : Plan) where
       epoch = le_refl r.h.now.epoch;
       resizes = le_refl r.h.now.resizes;
       caps = λ k le. sother (2 + k) (λ e. omega (arith, e, le));
+      shut = λ _ e. e;
     }
 
     sothers : Apart plan.first s ss r.h r.h by
@@ -307,6 +316,7 @@ module _ (plan : Plan) where
       gate = λ t. past_stays s.words ss.words r.h.now r.h.now v.gate sgoes (sknows.gate t);
       asked = λ t. past_stays s.words ss.words r.h.now r.h.now v.asked sgoes (sknows.asked t);
       room = λ t. past_stays s.words ss.words r.h.now r.h.now v.room sgoes (sknows.room t);
+      met = mets_stay s.words ss.words r.h.now r.h.now v.met sgoes sknows.met;
     }
 
     pub stored_ring : Ring plan ss
@@ -324,6 +334,7 @@ module _ (plan : Plan) where
       behind = r.behind;
       ahead = r.ahead;
       long = r.long;
+      room = r.room;
       turns = r.turns;
       sizes = sizes_same plan.capacity s.words ss.words r.h.now.resizes r.h.resized sgoes.caps r.sizes;
       places = λ p a b. place_stays plan.first s ss r.h r.h p [] (sym (append-nil r.h.log)) (splace_word p) refl (λ t. t) (λ t. t) (λ t. t) (λ t. t)

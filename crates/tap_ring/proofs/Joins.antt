@@ -1,5 +1,5 @@
 -- How tokens come to one seat again.
-use Rattle.std.proofs.Common.{◌≡◌, ◌≢◌, ℕ, ◌+◌, eqb, List, [], ◌++◌, set, None, true, false, refl, sym, ap, ◌∙◌, subst, ⊎_elim, arith, append-nil}
+use Rattle.std.proofs.Common.{◌≡◌, ◌≢◌, ℕ, ◌+◌, eqb, List, [], ◌∷◌, ◌++◌, set, None, true, false, refl, sym, ap, ◌∙◌, subst, ⊎_elim, arith, append-nil}
 use Rattle.std.proofs.lemmas.Bool.Decides.{eqb_tells}
 use mathlib.Core.Option.{some, some-injective}
 use lib.ListN.{get_elem?}
@@ -9,7 +9,7 @@ use Rattle.tap_ring.specs.declared.rule.View.{View}
 use Rattle.tap_ring.specs.declared.rule.Plan.{Plan}
 use Rattle.tap_ring.specs.Standing.{RingState, Placing, Standing, IsEntered, Knows, Ring, times}
 use Rattle.tap_ring.specs.Steps.{with_producer, with_keeper, spent_view}
-use Rattle.tap_ring.proofs.Kit.{off, on, some_not_none, each_append, total_set, times-append}
+use Rattle.tap_ring.proofs.Kit.{off, on, some_not_none, each_append, total_set, times-append, mets_both}
 use Rattle.tap_ring.proofs.Counts.{given_append}
 use Rattle.tap_ring.proofs.Stays.{Still, knows_apart, place_stays}
 use Rattle.tap_ring.proofs.Loads.{apart_same}
@@ -26,6 +26,7 @@ module _ (plan : Plan) where
     gate = λ e. absurd (on e);
     asked = λ e. absurd (on e);
     room = λ e. absurd (on e);
+    met = tt;
   }
 
   -- all seats, after two became one
@@ -74,6 +75,7 @@ module _ (plan : Plan) where
         behind = r.behind;
         ahead = r.ahead;
         long = r.long;
+        room = r.room;
         turns = r.turns;
         sizes = r.sizes;
         places = λ p a b. place_stays plan.first s s' r.h h' p [] (sym (append-nil r.h.log)) refl refl (λ t. t) (λ t. t) (λ t. t) (λ t. t)
@@ -99,9 +101,9 @@ module _ (plan : Plan) where
   both_nil : {A : Type 0} (xs ys : List A) → xs ≡ [] → ys ≡ [] → xs ++ ys ≡ []
   both_nil xs ys a b = ap (λ l. l ++ ys) a ∙ b
 
-  pub joins_producer : (by : ℕ) (v : View) (other : ℕ) (u : View) → v.takes ≡ true → v.in_hand ≡ None → v.putting ≡ None → u.putting ≡ None
+  pub joins_producer : (by : ℕ) (v : View) (other : ℕ) (u : View) → v.takes ≡ true → v.in_hand ≡ None → v.putting ≡ None → u.putting ≡ None → u.spent ≡ false
       → Joins (Ring plan) by v other u (with_producer v u) spent_view
-  joins_producer by v other u takes_is empty idle theirs_idle s r at apart there =
+  joins_producer by v other u takes_is empty idle theirs_idle live s r at apart there =
       let w = with_producer v u in
       let s' : RingState = record s { views = set (set s.views by w) other spent_view } in
       let k = r.seats by v at in
@@ -120,6 +122,7 @@ module _ (plan : Plan) where
         gate = k.gate;
         asked = k.asked;
         room = k.room;
+        met = mets_both s.words r.h.now v.met (u.gate ∷ u.asked ∷ u.room ∷ u.met) k.met (theirs.gate live, (theirs.asked live, (theirs.room live, theirs.met)));
       } in
       join s r by v other u w r.h.keeper at apart there f.own empty idle theirs_idle refl (λ p. times-append p v.mine u.mine)
       (seats_joined s s' r.h by other w refl knows (λ j x ne _ e. knows_apart plan s s' r r.h by j x (apart_same plan s r.h by s'.views) ne (r.seats j x e)))
@@ -146,6 +149,7 @@ module _ (plan : Plan) where
         gate = λ _. theirs.gate live;
         asked = k.asked;
         room = k.room;
+        met = k.met;
       } in
       join s r by v other u w by at apart there f.own empty idle theirs_idle (omega (arith, no_parts)) (λ p. let m = ap (times p) no_mine in omega (arith, m))
       (seats_joined s s' h' by other w refl knows (λ j x _ ne e.
@@ -159,4 +163,5 @@ module _ (plan : Plan) where
         gate = o.gate;
         asked = o.asked;
         room = o.room;
+        met = o.met;
       }))

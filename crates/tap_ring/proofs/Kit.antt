@@ -9,7 +9,7 @@ use Rattle.tap_ring.specs.declared.rule.Moment.{Moment}
 use Rattle.tap_ring.specs.declared.rule.Claim.{Claim}
 use Rattle.tap_ring.specs.declared.rule.View.{View}
 use Rattle.tap_ring.specs.GateWord.{gate_word, GateLaws}
-use Rattle.tap_ring.specs.Moments.{Fits, IsLater, IsPast, gate_of, capacity_at}
+use Rattle.tap_ring.specs.Moments.{Fits, IsLater, IsPast, EachPast, gate_of, capacity_at}
 use Rattle.tap_ring.specs.Standing.{Placing, EachClaim, IsEntered, times, total, within}
 
 pub off : false ≡ true → ⊥
@@ -86,6 +86,7 @@ pub record GoesOn (ws ws' : List ℕ) (now now' : Moment) : Type 0 where
   pub epoch : now.epoch ≤ now'.epoch
   pub resizes : now.resizes ≤ now'.resizes
   pub caps : (k : ℕ) → k ≤ now.resizes → capacity_at ws' k ≡ capacity_at ws k
+  pub shut : now.epoch ≡ now'.epoch → now.shut ≡ true → now'.shut ≡ true
 
 pub goes_same : (ws : List ℕ) (now : Moment) → GoesOn ws ws now now
 goes_same ws now = record {
@@ -94,6 +95,7 @@ goes_same ws now = record {
   epoch = le_refl now.epoch;
   resizes = le_refl now.resizes;
   caps = λ k le. refl;
+  shut = λ _ e. e;
 }
 
 pub past_stays : (ws ws' : List ℕ) (now now' m : Moment) → GoesOn ws ws' now now' → IsPast ws now m → IsPast ws' now' m
@@ -104,7 +106,23 @@ past_stays ws ws' now now' m g p = record {
   epoch = le_trans p.epoch g.epoch;
   resizes = le_trans p.resizes g.resizes;
   capacity = g.caps m.resizes p.resizes ∙ p.capacity;
+  shut = λ same e.
+      let a = p.epoch in
+      let b = g.epoch in
+      g.shut (omega (arith, a, b, same)) (p.shut (omega (arith, a, b, same)) e);
 }
+
+pub mets_stay : (ws ws' : List ℕ) (now now' : Moment) (ms : List Moment) → GoesOn ws ws' now now' → EachPast ws now ms → EachPast ws' now' ms
+mets_stay ws ws' now now' [] g e = tt
+mets_stay ws ws' now now' (m ∷ ms) g e = (past_stays ws ws' now now' m g e.0, mets_stay ws ws' now now' ms g e.1)
+
+pub mets_both : (ws : List ℕ) (now : Moment) (xs ys : List Moment) → EachPast ws now xs → EachPast ws now ys → EachPast ws now (xs ++ ys)
+mets_both ws now [] ys a b = b
+mets_both ws now (x ∷ xs) ys a b = (a.0, mets_both ws now xs ys a.1 b)
+
+pub mets_parts : (ws : List ℕ) (now : Moment) (xs ys : List Moment) → EachPast ws now (xs ++ ys) → EachPast ws now xs × EachPast ws now ys
+mets_parts ws now [] ys e = (tt, e)
+mets_parts ws now (x ∷ xs) ys e = let r = mets_parts ws now xs ys e.1 in ((e.0, r.0), r.1)
 
 -- ---- the log
 

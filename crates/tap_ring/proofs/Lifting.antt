@@ -88,7 +88,7 @@ module _ (plan : Plan) where
       keeper = refl;
       front = λ ne. absurd (ne (sym lfront.own));
       gate = λ _. (refl, refl, refl, (λ _. refl), (λ _. refl));
-      turns = λ _. (refl, refl);
+      turns = λ _. (refl, refl, refl);
       given = λ _ _ e. e;
       putting = λ j c ne e le m.
           let w = lword in
@@ -143,6 +143,7 @@ module _ (plan : Plan) where
       gate = lknows.gate;
       asked = lknows.asked;
       room = lknows.room;
+      met = lknows.met;
     }
 
     pub lifted_ring : Ring plan ls
@@ -160,6 +161,7 @@ module _ (plan : Plan) where
       behind = let b = llow in omega (arith, b);
       ahead = subst (λ m. r.h.now.claimed ≤ r.h.now.freed + m) (sym lslots) r.ahead;
       long = r.long;
+      room = r.room;
       turns = r.turns;
       sizes = r.sizes;
       places = λ p a b. ⊎_elim

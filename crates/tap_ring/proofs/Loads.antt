@@ -27,6 +27,7 @@ module _ (plan : Plan) where
     epoch = le_refl r.h.now.epoch;
     resizes = le_refl r.h.now.resizes;
     capacity = r.capacity;
+    shut = λ _ e. e;
   }
 
   -- each place that a seat claimed is below the claim count
@@ -54,7 +55,7 @@ module _ (plan : Plan) where
     keeper = refl;
     front = λ _. (refl, refl, (λ e. e));
     gate = λ _. (refl, refl, refl, (λ _. refl), (λ _. refl));
-    turns = λ _. (refl, refl);
+    turns = λ _. (refl, refl, refl);
     given = λ _ _ e. e;
     putting = λ j c ne e low word. (low, word);
   }
@@ -115,6 +116,7 @@ module _ (plan : Plan) where
         behind = r.behind;
         ahead = r.ahead;
         long = r.long;
+        room = r.room;
         turns = r.turns;
         sizes = r.sizes;
         places = λ p a b. place_stays plan.first s s' r.h r.h p [] (sym (append-nil r.h.log)) refl refl (λ t. t) (λ t. t) (λ t. t) (λ t. t)
@@ -142,6 +144,7 @@ module _ (plan : Plan) where
     gate = λ _. past_now s r;
     asked = k.asked;
     room = k.room;
+    met = k.met;
   }
 
   pub loads_gate : (slots by : ℕ) (v : Seated) → v.0.spent ≡ false → Allows (Ring plan) slots by v 0 (λ n. n) (LoadsGate (step slots 0 0 0 none) v)
@@ -175,6 +178,7 @@ module _ (plan : Plan) where
           gate = k.gate;
           asked = k.gate;
           room = k.room;
+          met = k.met;
         })),
         (ap (slice_index s.words) is ∙ (k.gate live).capacity, refl, refl),
       )
@@ -195,6 +199,7 @@ module _ (plan : Plan) where
           gate = k.gate;
           asked = k.asked;
           room = λ _. past_now s r;
+          met = k.met;
         })),
         (r.h.now, r.freed, new_now s r by v.0 live k, refl, refl),
       )

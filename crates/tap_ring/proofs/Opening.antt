@@ -1,5 +1,5 @@
 -- How a ring begins.
-use Rattle.std.proofs.Common.{◌≡◌, ℕ, zero, suc, ◌+◌, ◌^◌, ◌%◌, ◌≤◌, ◌<◌, List, [], ◌∷◌, replicate, map, length, set, Some, None, Option, Bool, true, false, refl, sym, ap, ◌∙◌, subst, le_refl, arith, ltb, length-set, mod-lt, get_or-set_same, get_or-set_other}
+use Rattle.std.proofs.Common.{◌≡◌, ℕ, zero, suc, ◌+◌, ◌^◌, ◌%◌, ◌≤◌, ◌<◌, List, [], ◌∷◌, replicate, map, length, set, Some, None, Option, Bool, true, false, refl, sym, ap, ◌∙◌, subst, inl, le_refl, arith, ltb, length-set, mod-lt, get_or-set_same, get_or-set_other}
 use Rattle.std.specs.Prelude.{slice_index}
 use Rattle.std.proofs.lemmas.List.{length-map, length-replicate}
 use mathlib.Core.Option.{some, some-injective, some-ne-none}
@@ -37,7 +37,7 @@ module _ (plan : Plan) where
     os = opening words (replicate n None) (maker plan)
 
     abbrev oh : Standing
-    oh = record { now = opening_moment plan.first plan.capacity; lifted = plan.first; log = []; opened = []; resized = []; consumer = 0; keeper = 0 }
+    oh = record { now = opening_moment plan.first plan.capacity; lifted = plan.first; log = []; opened = []; resized = []; resized_from = plan.first; consumer = 0; keeper = 0 }
 
     onow : IsPast words oh.now oh.now
     onow = record {
@@ -47,6 +47,7 @@ module _ (plan : Plan) where
       epoch = omega arith;
       resizes = omega arith;
       capacity = capacity;
+      shut = λ _ e. e;
     }
 
     oslots : slots_of os ≡ n
@@ -63,11 +64,12 @@ module _ (plan : Plan) where
       claims = no_claims plan os oh 0 (maker plan) refl refl;
       front = λ _. record { own = refl; next = refl; freed = refl; count = omega arith; frames = refl; hand = λ y is. absurd (some_not_none y (sym is)) };
       keeps = λ _. record { own = refl; shut = refl; epoch = refl; resizes = refl; claimed = λ _. refl; stored = λ y is. absurd (some_not_none y (sym is)) };
-      turns = λ _. (refl, refl);
+      turns = λ _. (refl, refl, refl);
       sizes = tt;
       gate = λ _. onow;
       asked = λ _. onow;
       room = λ _. onow;
+      met = tt;
     }
 
     first_given : (k : ℕ) → k ≤ 0 → IsGiven plan.capacity [] k (capacity_at words k)
@@ -93,6 +95,7 @@ module _ (plan : Plan) where
       behind = le_refl plan.first;
       ahead = omega arith;
       long = omega arith;
+      room = inl (omega arith);
       turns = record { count = refl; ahead = λ p le. refl; claims = λ p x e. absurd (some-ne-none x (sym e.3)) };
       sizes = record { count = refl; given = first_given };
       places = λ p a b. record {

@@ -12,7 +12,7 @@ use Rattle.tap_ring.specs.declared.rule.View.{View}
 use Rattle.tap_ring.specs.declared.rule.Plan.{Plan}
 use Rattle.tap_ring.specs.Standing.{RingState, Placing, slots_of, slot_at, word_at, IsEntered, IsPlace, Knows, Ring, times}
 use Rattle.tap_ring.specs.Steps.{Seated, Puts}
-use Rattle.tap_ring.proofs.Kit.{some_not_none, some_is, past_stays, entered_once, entered_below, total_set, slots_apart}
+use Rattle.tap_ring.proofs.Kit.{some_not_none, some_is, past_stays, mets_stay, entered_once, entered_below, total_set, slots_apart}
 use Rattle.tap_ring.proofs.Counts.{sizes_same}
 use Rattle.tap_ring.proofs.Stays.{Apart, seats_set, place_stays, word_same, home_same}
 use Rattle.tap_ring.proofs.Loads.{hand_set}
@@ -100,6 +100,7 @@ module _ (plan : Plan) where
         epoch = le_refl r.h.now.epoch;
         resizes = le_refl r.h.now.resizes;
         caps = λ k le. let f = r.fits.resizes in put_low (2 + k) (omega (arith, le, f));
+        shut = λ _ e. e;
       };
       more = [];
       log = sym (append-nil r.h.log);
@@ -108,7 +109,7 @@ module _ (plan : Plan) where
       keeper = refl;
       front = λ _. (refl, refl, put_hand);
       gate = λ _. (refl, refl, refl, (λ _. refl), (λ le. put_low (2 + (r.h.now.resizes + 1)) (omega (arith, le))));
-      turns = λ _. (refl, refl);
+      turns = λ _. (refl, refl, refl);
       given = λ _ _ e. e;
       putting = λ j d ne e low word.
           let apart : d.place ≢ c.place = λ same. ne (ap (λ (x : Placing). x.by) (entered_once plan.first r.h.log d.place (record { by = j; claim = d }) (record { by = by; claim = c }) e (subst (λ m. IsEntered plan.first r.h.log m (record { by = by; claim = c })) (sym same) mine_put.0))) in
@@ -147,6 +148,7 @@ module _ (plan : Plan) where
           gate = λ t. past_stays s.words put_state.words r.h.now r.h.now v.gate put_others.goes (k.gate t);
           asked = λ t. past_stays s.words put_state.words r.h.now r.h.now v.asked put_others.goes (k.asked t);
           room = λ t. past_stays s.words put_state.words r.h.now r.h.now v.room put_others.goes (k.room t);
+          met = mets_stay s.words put_state.words r.h.now r.h.now v.met put_others.goes k.met;
         }
 
     pub put_ring : Ring plan put_state
@@ -164,6 +166,7 @@ module _ (plan : Plan) where
       behind = r.behind;
       ahead = subst (λ m. r.h.now.claimed ≤ r.h.now.freed + m) (sym put_slots) r.ahead;
       long = r.long;
+      room = r.room;
       turns = r.turns;
       sizes = sizes_same plan.capacity s.words put_state.words r.h.now.resizes r.h.resized put_others.goes.caps r.sizes;
       places = λ p a b. ⊎_elim

@@ -51,7 +51,7 @@ module _ (plan : Plan) where
         keeper = refl;
         front = λ _. (refl, refl, (λ e. e));
         gate = λ _. (refl, refl, refl, (λ _. refl), (λ _. refl));
-        turns = λ _. (refl, refl);
+        turns = λ _. (refl, refl, refl);
         given = λ _ _ e. e;
         putting = λ j c ne e low word. (low, word);
       } in
@@ -69,6 +69,7 @@ module _ (plan : Plan) where
         behind = r.behind;
         ahead = r.ahead;
         long = r.long;
+        room = r.room;
         turns = r.turns;
         sizes = r.sizes;
         places = λ p a b. place_stays plan.first s s' r.h h' p [] (sym (append-nil r.h.log)) refl refl (λ t. t) (λ t. t) (λ t. t) (λ t. t)
@@ -113,6 +114,7 @@ module _ (plan : Plan) where
         gate = k.gate;
         asked = k.asked;
         room = k.room;
+        met = k.met;
       })
       (record {
         claims = no_claims (record s { views = set s.views by (without_producer v) ++ one_producer v ∷ [] }) (record r.h { consumer = r.h.consumer }) (length s.views) (one_producer v) none_mine idle;
@@ -123,6 +125,7 @@ module _ (plan : Plan) where
         gate = k.gate;
         asked = k.asked;
         room = k.room;
+        met = k.met;
       })
 
   -- the consumer leaves the first seat
@@ -141,6 +144,7 @@ module _ (plan : Plan) where
         gate = k.gate;
         asked = k.asked;
         room = k.room;
+        met = k.met;
       })
       (record {
         claims = no_claims (record s { views = set s.views by (without_consumer v) ++ the_consumer v ∷ [] }) (record r.h { consumer = length s.views }) (length s.views) (the_consumer v) none_mine idle;
@@ -151,4 +155,5 @@ module _ (plan : Plan) where
         gate = k.gate;
         asked = k.asked;
         room = k.room;
+        met = k.met;
       })

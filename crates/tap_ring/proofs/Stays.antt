@@ -12,7 +12,7 @@ use Rattle.tap_ring.specs.declared.rule.Plan.{Plan}
 use Rattle.tap_ring.specs.Moments.{capacity_at}
 use Rattle.tap_ring.specs.Turns.{EachGiven}
 use Rattle.tap_ring.specs.Standing.{RingState, Placing, Standing, slots_of, slot_at, word_at, home_at, IsEntered, IsReady, IsClaimed, IsInHand, IsPlace, frames_of, KnowsClaims, KnowsFront, KnowsGate, Knows, Ring}
-use Rattle.tap_ring.proofs.Kit.{take_more, GoesOn, past_stays, entered_longer, each_map}
+use Rattle.tap_ring.proofs.Kit.{take_more, GoesOn, past_stays, mets_stay, entered_longer, each_map}
 
 -- what a step of the seat `by` must leave as it was for all others
 pub record Apart (first : ℕ) (s s' : RingState) (h h' : Standing) (by : ℕ) : Type 0 where
@@ -25,7 +25,7 @@ pub record Apart (first : ℕ) (s s' : RingState) (h h' : Standing) (by : ℕ) :
   pub front : h.consumer ≢ by → (h'.now.freed ≡ h.now.freed) × (h'.lifted ≡ h.lifted) × (word_at s h.lifted ≡ h.lifted + 1 → word_at s' h.lifted ≡ h.lifted + 1)
   pub gate : h.keeper ≢ by → (h.now.shut ≡ h'.now.shut) × (h.now.epoch ≡ h'.now.epoch) × (h.now.resizes ≡ h'.now.resizes)
       × (h.now.shut ≡ true → h.now.claimed ≡ h'.now.claimed) × (h.now.resizes + 1 < 2 ^ 7 → capacity_at s'.words (h.now.resizes + 1) ≡ capacity_at s.words (h.now.resizes + 1))
-  pub turns : h.keeper ≢ by → (h.opened ≡ h'.opened) × (h.resized ≡ h'.resized)
+  pub turns : h.keeper ≢ by → (h.opened ≡ h'.opened) × (h.resized ≡ h'.resized) × (h.resized_from ≡ h'.resized_from)
   pub given : (capacity : ℕ) (xs : List Loaded) → EachGiven capacity h.resized xs → EachGiven capacity h'.resized xs
   pub putting : (j : ℕ) (c : Claim) → j ≢ by → IsEntered first h.log c.place (record { by = j; claim = c }) → h.lifted ≤ c.place → word_at s c.place ≤ c.place
       → (h'.lifted ≤ c.place) × (word_at s' c.place ≤ c.place)
@@ -89,11 +89,12 @@ knows_apart plan s s' r h' by j v a ne k = record {
   claims = claims_apart plan s s' r.h h' by j v a ne k.claims;
   front = λ t. front_apart plan s s' r h' by j v a ne (k.front t);
   keeps = λ t. gate_apart plan s s' r.h h' by j v a ne (k.keeps t);
-  turns = λ t. let same = a.turns (λ e. ne ((k.keeps t).own ∙ e)) in ((k.turns t).0 ∙ same.0, (k.turns t).1 ∙ same.1);
+  turns = λ t. let same = a.turns (λ e. ne ((k.keeps t).own ∙ e)) in ((k.turns t).0 ∙ same.0, (k.turns t).1 ∙ same.1, (k.turns t).2 ∙ same.2);
   sizes = a.given plan.capacity v.loaded k.sizes;
   gate = λ t. past_stays s.words s'.words r.h.now h'.now v.gate a.goes (k.gate t);
   asked = λ t. past_stays s.words s'.words r.h.now h'.now v.asked a.goes (k.asked t);
   room = λ t. past_stays s.words s'.words r.h.now h'.now v.room a.goes (k.room t);
+  met = mets_stay s.words s'.words r.h.now h'.now v.met a.goes k.met;
 }
 
 -- all seats, after a step of one

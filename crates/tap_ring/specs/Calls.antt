@@ -1,5 +1,5 @@
 -- This project's own: what each call of a ring promises.
-use Rattle.std.specs.Prelude.{◌≡◌, ◌≢◌, ℕ, ◌+◌, ◌^◌, ◌<◌, ◌≤◌, ◌⊎◌, Bool, true, false, List, [], ◌∷◌, ◌++◌, length, None}
+use Rattle.std.specs.Prelude.{◌≡◌, ◌≢◌, ℕ, ◌+◌, ◌<◌, ◌≤◌, ◌⊎◌, Bool, true, false, List, [], ◌∷◌, ◌++◌, length, None}
 use Rattle.atomic_table.specs.Seated.{TableId}
 use Rattle.tap_frame.specs.Frame.{FrameValue}
 use Rattle.tap_ring.specs.declared.rule.Moment.{Moment}
@@ -8,8 +8,9 @@ use Rattle.tap_ring.specs.declared.rule.View.{View}
 use Rattle.tap_ring.specs.declared.rule.Plan.{Plan}
 use Rattle.tap_ring.specs.declared.producer.Why.{Why}
 use Rattle.tap_ring.specs.declared.producer.Why.TheVariants.{Gone, Spent, Full, Contended}
-use Rattle.tap_ring.specs.declared.keeper.Reopen.{Reopen}
-use Rattle.tap_ring.specs.declared.keeper.Reopen.TheVariants.{NotDrained, EpochsSpent}
+use Rattle.tap_ring.specs.declared.keeper.StaysShut.{StaysShut}
+use Rattle.tap_ring.specs.declared.keeper.StaysShut.TheVariants.{NotDrained, EpochsSpent}
+use Rattle.tap_ring.specs.declared.gate.TheConstants.{CLAIMS_END, EPOCHS_END, RESIZES_END}
 use Rattle.tap_ring.specs.GateWord.{claimed_of, is_shut, epoch_of}
 use Rattle.tap_ring.specs.Moments.{IsLater, IsGone, IsOpen, IsSpent, IsFull, HasRoom, gate_of}
 use Rattle.tap_ring.specs.Turns.{loaded}
@@ -53,7 +54,7 @@ pub record IsConsumer (v : View) : Type 0 where
   pub takes : v.takes ≡ true
   pub in_hand : v.in_hand ≡ None
   pub order : v.freed ≤ v.next
-  pub bound : v.next < 2 ^ 40
+  pub bound : v.next < CLAIMS_END
   pub parts : v.parts ≡ 0
   pub mine : v.mine ≡ []
   pub putting : v.putting ≡ None
@@ -62,7 +63,7 @@ pub record IsConsumer (v : View) : Type 0 where
 -- a keeper between two calls
 pub record IsKeeper (v : View) : Type 0 where
   pub keeps : v.keeps ≡ true
-  pub resizes : v.gate.resizes < 2 ^ 7
+  pub resizes : v.gate.resizes < RESIZES_END
   pub opened : v.gate.epoch ≡ length v.opened
   pub resized : v.gate.resizes ≡ length v.resized
   pub parts : v.parts ≡ 0
@@ -80,17 +81,19 @@ pub record SameHands (v w : View) : Type 0 where
 
 -- ---- to put a frame
 
+-- the gate was met again: the token had met it so often before, and so often then
+abbrev pub MetAgain : ℕ → ℕ → Type 0
+MetAgain before then = before < then
+
 -- the gate that this call loaded first was open and not spent; the capacity and the freed count were loaded after it
 pub record Asked (epoch : ℕ) (v w : View) : Type 0 where
   pub open_then : IsOpen epoch w.asked
   pub unspent : ¬ IsSpent w.asked
   pub later : IsLater v.gate w.asked
   pub mine : EachClaim (λ c. c.place < w.asked.claimed) v.mine
-  pub order : IsLater w.asked w.room
+  pub again : MetAgain v.gate_loads w.asked_loads
+  pub order : IsLater w.asked w.room × (w.asked_loads ≤ w.room_loads)
   pub loaded_is : w.loaded ≡ v.loaded ++ loaded w.asked.resizes w.asked.capacity ∷ []
-  pub capacity_loads : w.capacity_loads ≡ v.capacity_loads + 1
-  pub freed_loads : w.freed_loads ≡ v.freed_loads + 1
-  pub gate_loads : w.gate_loads ≡ v.gate_loads + 2
 
 -- the claim count that was loaded is by the capacity or more above the freed count that was loaded after it
 abbrev pub FoundFull : View → Type 0
@@ -102,13 +105,13 @@ pub record Placed (epoch : ℕ) (frame : FrameValue) (place : ℕ) (v w : View) 
   pub asked : Asked epoch v w
   pub found : ¬ FoundFull w
   pub same_gate : gate_of w.gate ≡ gate_of w.asked
-  pub order : IsLater w.room w.gate
+  pub order : IsLater w.room w.gate × MetAgain w.room_loads w.gate_loads
   pub open_then : IsOpen epoch w.gate
   pub same_resizes : w.gate.resizes ≡ w.asked.resizes
   pub same_capacity : w.gate.capacity ≡ w.asked.capacity
   pub room : HasRoom w.gate
   pub place_is : place ≡ w.gate.claimed
-  pub bound : place + 1 < 2 ^ 40
+  pub bound : place + 1 < CLAIMS_END
   pub above : EachClaim (λ c. c.place < place) v.mine
   pub mine : w.mine ≡ v.mine ++ claim place epoch frame ∷ []
 
@@ -119,7 +122,7 @@ pub record IsGoneThen (epoch found : ℕ) (shut : Bool) (resizes : ℕ) (v w : V
   pub shut_is : shut ≡ w.gate.shut
   pub resizes_is : resizes ≡ w.gate.resizes
   pub loaded_is : w.loaded ≡ v.loaded
-  pub gate_loads : w.gate_loads ≡ v.gate_loads + 1
+  pub again : MetAgain v.gate_loads w.gate_loads
 
 -- else, its claim count was at its end
 pub record IsSpentThen (epoch claimed resizes : ℕ) (v w : View) : Type 0 where
@@ -128,7 +131,7 @@ pub record IsSpentThen (epoch claimed resizes : ℕ) (v w : View) : Type 0 where
   pub claimed_is : claimed ≡ w.gate.claimed
   pub resizes_is : resizes ≡ w.gate.resizes
   pub loaded_is : w.loaded ≡ v.loaded
-  pub gate_loads : w.gate_loads ≡ v.gate_loads + 1
+  pub again : MetAgain v.gate_loads w.gate_loads
 
 -- else, there was no room by the numbers loaded, and at the load of the freed count the ring was full
 pub record IsFullThen (epoch claimed freed resizes : ℕ) (v w : View) : Type 0 where
@@ -138,14 +141,14 @@ pub record IsFullThen (epoch claimed freed resizes : ℕ) (v w : View) : Type 0 
   pub claimed_is : claimed ≡ w.asked.claimed
   pub freed_is : freed ≡ w.room.freed
   pub resizes_is : (resizes ≡ w.asked.resizes) × (w.gate.resizes ≡ resizes)
-  pub order : IsLater w.room w.gate
+  pub order : IsLater w.room w.gate × MetAgain w.room_loads w.gate_loads
 
 -- the gate was another at the exchange; or, where there was no room, it was resized since
 pub record IsContended (epoch expected found resizes : ℕ) (v w : View) : Type 0 where
   pub asked : Asked epoch v w
   pub expected_is : expected ≡ gate_of w.asked
   pub found_is : found ≡ gate_of w.gate
-  pub order : IsLater w.room w.gate
+  pub order : IsLater w.room w.gate × MetAgain w.room_loads w.gate_loads
   pub differ : expected ≢ found
   pub resizes_is : resizes ≡ w.asked.resizes
   pub cause : (¬ FoundFull w) ⊎ (FoundFull w × (w.gate.resizes ≢ w.asked.resizes))
@@ -161,14 +164,14 @@ IsCause epoch (Contended expected found) resizes v w = IsContended epoch expecte
 
 -- it is open at this epoch, and not spent
 abbrev pub IsOpenWord : ℕ → ℕ → Type 0
-IsOpenWord epoch gate = (is_shut gate ≡ false) × (epoch_of gate ≡ epoch) × (claimed_of gate + 1 < 2 ^ 40)
+IsOpenWord epoch gate = (is_shut gate ≡ false) × (epoch_of gate ≡ epoch) × (claimed_of gate + 1 < CLAIMS_END)
 
 -- the first cause that holds of it
 abbrev pub RefusesWord : ℕ → ℕ → Why → Type 0
 RefusesWord epoch gate (Gone found shut) =
     (found ≡ epoch_of gate) × (shut ≡ is_shut gate) × ((is_shut gate ≡ true) ⊎ (epoch_of gate ≢ epoch))
 RefusesWord epoch gate (Spent claimed) =
-    (is_shut gate ≡ false) × (epoch_of gate ≡ epoch) × (claimed_of gate + 1 ≡ 2 ^ 40) × (claimed ≡ claimed_of gate)
+    (is_shut gate ≡ false) × (epoch_of gate ≡ epoch) × (claimed_of gate + 1 ≡ CLAIMS_END) × (claimed ≡ claimed_of gate)
 RefusesWord epoch gate (Full claimed freed) = ⊥
 RefusesWord epoch gate (Contended expected found) = ⊥
 
@@ -212,7 +215,7 @@ pub record IsShutNow (claimed : ℕ) (v w : View) : Type 0 where
   pub epoch : w.gate.epoch ≡ v.gate.epoch
   pub opened : w.opened ≡ v.opened
   pub resizes : w.gate.resizes ≡ v.gate.resizes
-  pub resized : w.resized ≡ v.resized
+  pub resized : (w.resized ≡ v.resized) × (w.resized_from ≡ v.resized_from)
 
 -- the gate is open at the next epoch; no place was given out since the shut
 pub record IsReopened (epoch : ℕ) (v w : View) : Type 0 where
@@ -223,22 +226,22 @@ pub record IsReopened (epoch : ℕ) (v w : View) : Type 0 where
   pub claimed : w.gate.claimed ≡ v.gate.claimed
   pub opened : w.opened ≡ v.opened ++ v.gate.claimed ∷ []
   pub resizes : w.gate.resizes ≡ v.gate.resizes
-  pub resized : w.resized ≡ v.resized
+  pub resized : (w.resized ≡ v.resized) × (w.resized_from ≡ v.resized_from)
 
 -- why the gate stays shut: the two counts that the tokens keep differ; or else there is no further epoch
-abbrev pub StaysShut : View → ℕ → Reopen → Type 0
-StaysShut v freed (NotDrained claimed freed_then) =
+abbrev pub KeepsShut : View → ℕ → StaysShut → Type 0
+KeepsShut v freed (NotDrained claimed freed_then) =
     (claimed ≡ v.gate.claimed) × (freed_then ≡ freed) × (claimed ≢ freed_then)
-StaysShut v freed EpochsSpent = (v.gate.claimed ≡ freed) × (v.gate.epoch ≡ 65535)
+KeepsShut v freed EpochsSpent = (v.gate.claimed ≡ freed) × (v.gate.epoch + 1 ≡ EPOCHS_END)
 
 -- the next number of resizes has this capacity; the claim count is the answer, and of a shut gate it stays
 pub record IsResized (capacity claimed : ℕ) (v w : View) : Type 0 where
   pub same : SameHands v w
-  pub few : v.gate.resizes < 127
+  pub few : v.gate.resizes + 1 < RESIZES_END
   pub later : SawMore v w
   pub capacity_is : w.gate.capacity ≡ capacity
   pub resizes : w.gate.resizes ≡ v.gate.resizes + 1
-  pub resized : w.resized ≡ v.resized ++ capacity ∷ []
+  pub resized : (w.resized ≡ v.resized ++ capacity ∷ []) × (w.resized_from ≡ claimed)
   pub claimed_is : claimed ≡ w.gate.claimed
   pub still : v.gate.shut ≡ true → w.gate.claimed ≡ v.gate.claimed
   pub shut : w.gate.shut ≡ v.gate.shut

@@ -5,7 +5,9 @@ use Rattle.tap_frame.specs.Frame.{FrameValue}
 use Rattle.tap_ring.specs.declared.rule.Claim.{Claim}
 use Rattle.tap_ring.specs.declared.rule.View.{View}
 use Rattle.tap_ring.specs.declared.rule.Plan.{Plan}
-use Rattle.tap_ring.specs.Turns.{turns_to, EachGiven}
+use Rattle.tap_ring.specs.declared.rule.Moment.{Moment}
+use Rattle.tap_ring.specs.Moments.{KeepsRoom, IsBefore}
+use Rattle.tap_ring.specs.Turns.{turns_to, IsGiven, EachGiven}
 use Rattle.tap_ring.specs.Standing.{EachClaim, times, within}
 use Rattle.tap_ring.specs.Calls.{Token}
 
@@ -38,6 +40,14 @@ abbrev pub claims_of : List Token → List Claim
 claims_of [] = []
 claims_of (t ∷ ts) = t.view.mine ++ claims_of ts
 
+-- what these producers saw last lies before the end
+abbrev pub AllBefore : ℕ → ℕ → Moment → List Token → Type 0
+AllBefore claimed freed last [] = Unit {0}
+AllBefore claimed freed last (t ∷ ts) =
+    (IsBefore claimed freed last t.view.gate × IsBefore claimed freed last t.view.asked
+    × IsBefore claimed freed last t.view.room)
+    × AllBefore claimed freed last ts
+
 -- along the places epochs never fall: of two claims the one of the lower place has no higher epoch
 abbrev pub EpochsNeverFall : List Claim → Type 0
 EpochsNeverFall claims =
@@ -56,6 +66,9 @@ pub record IsEnd (plan : Plan) (all : List Token) (c k : View) (claimed freed li
   pub epochs : AllClaims (λ x. x.epoch ≡ turns_to x.place k.opened) all
   pub rising : EpochsNeverFall (claims_of all)
   pub capacities : AllGiven plan.capacity k.resized all
+  pub seen : AllBefore claimed freed k.gate all
+  pub last_capacity : IsGiven plan.capacity k.resized k.gate.resizes k.gate.capacity
+  pub room : KeepsRoom claimed freed k.gate.capacity k.resized_from
   pub order : (plan.first ≤ freed) × (freed ≤ lifted) × (lifted ≤ claimed)
   pub turns : (k.gate.epoch ≡ length k.opened) × (k.gate.resizes ≡ length k.resized)
   pub later : k.gate.claimed ≤ claimed

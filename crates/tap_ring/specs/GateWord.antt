@@ -1,5 +1,6 @@
 -- This project's own: the gate word of a ring, and its four parts.
 use Rattle.std.specs.Prelude.{◌≡◌, ℕ, ◌+◌, ◌*◌, ◌/◌, ◌%◌, ◌^◌, ◌<◌, ◌==◌, Bool, true, false}
+use Rattle.tap_ring.specs.declared.gate.TheConstants.{CLAIMS_END, EPOCHS_END, RESIZES_END}
 
 -- bits 0 to 39: the claim count
 abbrev pub claimed_of : ℕ → ℕ
@@ -28,6 +29,7 @@ gate_word claimed shut epoch resizes = claimed + 2 ^ 40 * bit shut + 2 ^ 41 * ep
 
 -- the four parts of a word are what it was made of, as long as each is within its bits
 abbrev pub GateLaws : Type 0
-GateLaws = (claimed : ℕ) (shut : Bool) (epoch resizes : ℕ) → claimed < 2 ^ 40 → epoch < 2 ^ 16 → resizes < 2 ^ 7
+GateLaws = (claimed : ℕ) (shut : Bool) (epoch resizes : ℕ)
+    → claimed < CLAIMS_END → epoch < EPOCHS_END → resizes < RESIZES_END
     → (let word = gate_word claimed shut epoch resizes in
     (claimed_of word ≡ claimed) × (is_shut word ≡ shut) × (epoch_of word ≡ epoch) × (resizes_of word ≡ resizes))

@@ -1,7 +1,7 @@
 -- This project's own: the rule of a ring, which holds between any two steps.
--- Word 0 is the gate, word 1 the freed count, words 2 to 129 the capacity of each number of resizes, and from word
--- 130 on stands one word a place. The place p has the slot p % slots, and its word is p + 1 once its frame was put.
-use Rattle.std.specs.Prelude.{◌≡◌, ℕ, ◌+◌, ◌%◌, ◌^◌, ◌<◌, ◌≤◌, ◌==◌, ◌⊎◌, nat_lt, if◌then◌else◌, true, false, List, [], ◌∷◌, map, take, length, replicate, slice_index, slice_set, Option, Some, None}
+-- The words are the gate, the freed count, the capacity of each number of resizes, and one word a slot. The place p has
+-- the slot p % slots, whose word is p + 1 once its frame was put.
+use Rattle.std.specs.Prelude.{◌≡◌, ℕ, ◌+◌, ◌%◌, ◌<◌, ◌≤◌, ◌==◌, ◌⊎◌, nat_lt, if◌then◌else◌, true, false, List, [], ◌∷◌, map, take, length, replicate, slice_index, slice_set, Option, Some, None}
 use mathlib.Core.Option.{some, none}
 use mathlib.Core.Option as maybe
 use lib.ListN.{get_elem?}
@@ -11,7 +11,9 @@ use Rattle.tap_ring.specs.declared.rule.Moment.{Moment}
 use Rattle.tap_ring.specs.declared.rule.Claim.{Claim}
 use Rattle.tap_ring.specs.declared.rule.View.{View}
 use Rattle.tap_ring.specs.declared.rule.Plan.{Plan}
-use Rattle.tap_ring.specs.Moments.{Fits, IsPast, gate_of, capacity_at}
+use Rattle.tap_ring.specs.declared.gate.TheConstants.{RESIZES_END, TURN}
+use Rattle.tap_ring.specs.declared.steps.TheConstants.{GATE, FREED, CAPACITIES, PLACES}
+use Rattle.tap_ring.specs.Moments.{Fits, KeepsRoom, IsPast, EachPast, gate_of, capacity_at}
 use Rattle.tap_ring.specs.Turns.{turns_to, IsGiven, EachGiven}
 
 -- a ring's words, slots and views as plain data
@@ -33,6 +35,8 @@ pub record Standing : Type 0 where
   -- the claim count at each reopening, and the capacity of each resize
   pub opened : List ℕ
   pub resized : List ℕ
+  -- the claim count at the last resize
+  pub resized_from : ℕ
   -- the seats of the consumer and of the keeper
   pub consumer : ℕ
   pub keeper : ℕ
@@ -46,7 +50,7 @@ slot_at s p = p % slots_of s
 
 -- the word of a place
 abbrev pub word_at : RingState → ℕ → ℕ
-word_at s p = slice_index s.words (130 + slot_at s p)
+word_at s p = slice_index s.words (PLACES + slot_at s p)
 
 -- what lies in the slot of a place, if it is at home
 abbrev pub home_at : RingState → ℕ → maybe.Option (maybe.Option (Option FrameValue))
@@ -122,11 +126,11 @@ module _ (plan : Plan) (s : RingState) (h : Standing) (j : ℕ) (v : View) where
     pub resizes : v.gate.resizes ≡ h.now.resizes
     pub claimed : v.gate.shut ≡ true → v.gate.claimed ≡ h.now.claimed
     pub stored : (c : ℕ) → v.stored ≡ Some c
-        → (h.now.resizes + 1 < 2 ^ 7) × (capacity_at s.words (h.now.resizes + 1) ≡ c) × (c ≤ slots_of s)
+        → (h.now.resizes + 1 < RESIZES_END) × (capacity_at s.words (h.now.resizes + 1) ≡ c) × (c ≤ slots_of s)
 
   -- the keeper knows each reopening and each resize
   abbrev pub KnowsTurns : Type 0
-  KnowsTurns = (v.opened ≡ h.opened) × (v.resized ≡ h.resized)
+  KnowsTurns = (v.opened ≡ h.opened) × (v.resized ≡ h.resized) × (v.resized_from ≡ h.resized_from)
 
   -- what a seat knows
   pub record Knows : Type 0 where
@@ -138,6 +142,7 @@ module _ (plan : Plan) (s : RingState) (h : Standing) (j : ℕ) (v : View) where
     pub gate : v.spent ≡ false → IsPast s.words h.now v.gate
     pub asked : v.spent ≡ false → IsPast s.words h.now v.asked
     pub room : v.spent ≡ false → IsPast s.words h.now v.room
+    pub met : EachPast s.words h.now v.met
 
 -- ---- reopenings and resizes
 
@@ -172,10 +177,10 @@ within first end p = if nat_lt p first then 0 else if nat_lt p end then 1 else 0
 pub record Ring (plan : Plan) (s : RingState) : Type 0 where
   pub h : Standing
   pub some_slot : 0 < slots_of s
-  pub wide : length s.words ≡ 130 + slots_of s
+  pub wide : length s.words ≡ PLACES + slots_of s
   -- the words
-  pub gate : slice_index s.words 0 ≡ gate_of h.now
-  pub freed : slice_index s.words 1 ≡ h.now.freed
+  pub gate : slice_index s.words GATE ≡ gate_of h.now
+  pub freed : slice_index s.words FREED ≡ h.now.freed
   pub capacity : capacity_at s.words h.now.resizes ≡ h.now.capacity
   pub fits : Fits h.now
   pub small : h.now.capacity ≤ slots_of s
@@ -185,6 +190,7 @@ pub record Ring (plan : Plan) (s : RingState) : Type 0 where
   pub behind : h.lifted ≤ h.now.claimed
   pub ahead : h.now.claimed ≤ h.now.freed + slots_of s
   pub long : h.now.claimed ≡ plan.first + length h.log
+  pub room : KeepsRoom h.now.claimed h.now.freed h.now.capacity h.resized_from
   -- the places from the freed count on, as many as there are slots
   pub places : (p : ℕ) → h.now.freed ≤ p → p < h.now.freed + slots_of s → IsPlace plan.first s h p
   -- reopenings and resizes
@@ -216,15 +222,17 @@ new_producers plan parts = record {
   keeps = false;
   opened = [];
   resized = [];
+  resized_from = plan.first;
   stored = None;
+  met = [];
   spent = false;
   gate = opening_moment plan.first plan.capacity;
   gate_loads = 0;
   asked = opening_moment plan.first plan.capacity;
-  capacity_loads = 0;
+  asked_loads = 0;
   loaded = [];
   room = opening_moment plan.first plan.capacity;
-  freed_loads = 0;
+  room_loads = 0;
   front = 0;
   front_loads = 0;
 }
@@ -247,4 +255,4 @@ maker plan = maker_of plan plan.producers
 -- the words of a ring that has just been made
 abbrev pub first_words : ℕ → ℕ → ℕ → List ℕ
 first_words most first capacity =
-    slice_set (slice_set (slice_set (replicate (130 + most) 0) 0 (first + 2 ^ 40)) 1 first) 2 capacity
+    slice_set (slice_set (slice_set (replicate (PLACES + most) 0) GATE (first + TURN)) FREED first) CAPACITIES capacity

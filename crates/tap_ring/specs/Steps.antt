@@ -1,5 +1,5 @@
 -- This project's own: what each kind of step tells the seat that takes it.
-use Rattle.std.specs.Prelude.{◌≡◌, ◌≢◌, ℕ, ◌+◌, ◌-◌, ◌%◌, ◌^◌, ◌<◌, ◌==◌, true, false, [], ◌∷◌, ◌++◌, MatchBool, Option, Some, None}
+use Rattle.std.specs.Prelude.{◌≡◌, ◌≢◌, ℕ, ◌+◌, ◌-◌, ◌%◌, ◌<◌, ◌==◌, true, false, [], ◌∷◌, ◌++◌, MatchBool, Option, Some, None}
 use mathlib.Core.Option.{some}
 use Rattle.atomic_table.specs.Table.{Me, Step, rest}
 use Rattle.tap_frame.specs.Frame.{FrameValue}
@@ -7,6 +7,8 @@ use Rattle.tap_ring.specs.declared.rule.Moment.{Moment}
 use Rattle.tap_ring.specs.declared.rule.Claim.{Claim}
 use Rattle.tap_ring.specs.declared.rule.View.{View}
 use Rattle.tap_ring.specs.declared.rule.Plan.{Plan}
+use Rattle.tap_ring.specs.declared.gate.TheConstants.{CLAIMS_END}
+use Rattle.tap_ring.specs.declared.steps.TheConstants.{PLACES}
 use Rattle.tap_ring.specs.Moments.{Fits, IsLater, HasRoom, gate_of}
 use Rattle.tap_ring.specs.Turns.{loaded}
 use Rattle.tap_ring.specs.Standing.{EachClaim, new_producers}
@@ -34,26 +36,26 @@ seen_gate m v = record v { gate = m; gate_loads = v.gate_loads + 1 }
 abbrev pub seen_capacity : View → View
 seen_capacity v = record v {
   asked = v.gate;
-  capacity_loads = v.capacity_loads + 1;
+  asked_loads = v.gate_loads;
   loaded = v.loaded ++ loaded v.gate.resizes v.gate.capacity ∷ [];
 }
 
 abbrev pub seen_freed : Moment → View → View
-seen_freed m v = record v { room = m; freed_loads = v.freed_loads + 1 }
+seen_freed m v = record v { room = m; room_loads = v.gate_loads }
 
 abbrev pub seen_front : ℕ → View → View
 seen_front found v = record v { front = found; front_loads = v.front_loads + 1 }
 
--- kind 1, load the gate: what the ring is
+-- a load of the gate: what the ring is
 abbrev pub LoadsGate : RingStep → Seated → ℕ → Seated → Type 0
 LoadsGate st v found w =
     (m : Moment) × (found ≡ gate_of m) × IsNew v.0 m × (w.0 ≡ seen_gate m v.0) × (w.1 ≡ v.1)
 
--- kind 12, load the capacity of the number of resizes that the gate had: it was the capacity then
+-- a load of the capacity of the number of resizes that the gate had: it was the capacity then
 abbrev pub LoadsCapacity : RingStep → Seated → ℕ → Seated → Type 0
 LoadsCapacity st v found w = (found ≡ v.0.gate.capacity) × (w.0 ≡ seen_capacity v.0) × (w.1 ≡ v.1)
 
--- kind 2, load the freed count: what the ring is
+-- a load of the freed count: what the ring is
 abbrev pub LoadsFreed : RingStep → Seated → ℕ → Seated → Type 0
 LoadsFreed st v found w =
     (m : Moment) × (found ≡ m.freed) × IsNew v.0 m × (w.0 ≡ seen_freed m v.0) × (w.1 ≡ v.1)
@@ -69,7 +71,7 @@ with_claim m frame v = record (seen_gate m v) {
   putting = Some (claim m.claimed m.epoch frame);
 }
 
--- kind 3, exchange the gate: on a match one more claim, of the place that the claim count had
+-- an exchange of the gate: on a match one more claim, of the place that the claim count had
 abbrev pub Exchanges : RingStep → Seated → ℕ → Seated → Type 0
 Exchanges st v found w =
     (m : Moment) × (found ≡ gate_of m) × IsNew v.0 m
@@ -78,16 +80,16 @@ Exchanges st v found w =
     × (w.1 ≡ (m.claimed % st.slots, None) ∷ v.1))
     ((w.0 ≡ seen_gate m v.0) × (w.1 ≡ v.1))
 
--- kind 4, store the place's number: the frame is put
+-- a store of the place's number: the frame is put
 abbrev pub Puts : RingStep → Seated → ℕ → Seated → Type 0
 Puts st v found w = (w.0 ≡ record v.0 { putting = None }) × (w.1 ≡ rest v.1)
 
 -- ---- the consumer's steps
 
--- kind 5, load the place's number, from the front place's word: ready, and the slot is in hand, or not
+-- a load of the front place's word: it is the place's number, and the slot is in hand, or it isn't
 abbrev pub LoadsFront : RingStep → Seated → ℕ → Seated → Type 0
 LoadsFront st v found w =
-    (st.word ≡ 130 + v.0.next % st.slots)
+    (st.word ≡ PLACES + v.0.next % st.slots)
     × MatchBool (found == v.0.next + 1)
     ((frame : FrameValue) × (w.0 ≡ record (seen_front found v.0) { in_hand = Some frame })
     × (w.1 ≡ (v.0.next % st.slots, Some frame) ∷ v.1))
@@ -99,10 +101,10 @@ with_lifted frame v = record v { next = v.next + 1; lifted = v.lifted ++ frame �
 -- the load by which the slot goes back, empty: the frame is lifted
 abbrev pub Lifts : RingStep → Seated → ℕ → Seated → Type 0
 Lifts st v found w =
-    (frame : FrameValue) × (v.0.in_hand ≡ Some frame) × (v.0.next + 1 < 2 ^ 40)
+    (frame : FrameValue) × (v.0.in_hand ≡ Some frame) × (v.0.next + 1 < CLAIMS_END)
     × (w.0 ≡ with_lifted frame v.0) × (w.1 ≡ rest v.1)
 
--- kind 6, add one to freed
+-- one is added to the freed count
 abbrev pub Frees : RingStep → Seated → ℕ → Seated → Type 0
 Frees st v found w = (found ≡ v.0.freed) × (w.0 ≡ record v.0 { freed = v.0.freed + 1 }) × (w.1 ≡ v.1)
 
@@ -133,31 +135,32 @@ with_turn m v = record (seen_gate (reopened_at m) v) { opened = v.opened ++ m.cl
 abbrev pub with_resize : ℕ → Moment → View → View
 with_resize capacity m v = record (seen_gate (resized_at capacity m) v) {
   resized = v.resized ++ capacity ∷ [];
+  resized_from = m.claimed;
   stored = None;
 }
 
--- kind 9, shut: the claim count
+-- the gate is shut: the claim count
 abbrev pub Shuts : RingStep → Seated → ℕ → Seated → Type 0
 Shuts st v found w =
     (m : Moment) × (found ≡ gate_of m) × IsKept v.0 m × (w.0 ≡ seen_gate (shut_at m) v.0) × (w.1 ≡ v.1)
 
--- kind 10, reopen: the new epoch
+-- the gate is reopened: the new epoch
 abbrev pub Reopens : RingStep → Seated → ℕ → Seated → Type 0
 Reopens st v found w =
     (m : Moment) × (found ≡ gate_of m) × IsKept v.0 m × (w.0 ≡ with_turn m v.0) × (w.1 ≡ v.1)
 
--- kind 11, store the capacity of the next number
+-- a store of the capacity of the next number of resizes
 abbrev pub Stores : RingStep → Seated → ℕ → Seated → Type 0
 Stores st v found w = (w.0 ≡ record v.0 { stored = Some st.first }) × (w.1 ≡ v.1)
 
--- kind 13, add one to the number of resizes: the new capacity counts, and the claim count
+-- one is added to the number of resizes: the new capacity counts, and the claim count
 abbrev pub Resizes : RingStep → Seated → ℕ → Seated → Type 0
 Resizes st v found w =
     (m : Moment) × (found ≡ gate_of m) × IsKept v.0 m
     × ((c : ℕ) × (v.0.stored ≡ Some c) × (w.0 ≡ with_resize c m v.0))
     × (w.1 ≡ v.1)
 
--- ---- kind 7, split, and kind 8, join
+-- ---- tokens leave the first seat, and come to one again
 
 -- one producer leaves the first seat
 abbrev pub without_producer : View → View
@@ -179,6 +182,7 @@ with_producer v w = record v {
   parts = v.parts + w.parts;
   mine = v.mine ++ w.mine;
   loaded = v.loaded ++ w.loaded;
+  met = v.met ++ w.gate ∷ w.asked ∷ w.room ∷ w.met;
 }
 
 -- the keeper's part comes to another seat
@@ -187,6 +191,7 @@ with_keeper v w = record v {
   keeps = true;
   opened = w.opened;
   resized = w.resized;
+  resized_from = w.resized_from;
   stored = None;
   gate = w.gate;
 }

@@ -6,9 +6,10 @@ ghost use Rattle.tap_ring.specs.Calls.{token, IsConsumer, IsLifted, IsNotReady, 
 
 use crate::ring::TapRing;
 use crate::rule::{Places, RingSeat};
-use crate::steps::{add_freed, give_front, load_front};
+use crate::steps::{PLACES, add_freed, give_front, load_front};
 use std::marker::Model;
 use tap_frame::Frame;
+use thiserror::Error;
 
 /// A ring's one consumer.
 ///
@@ -33,7 +34,8 @@ impl Model for Consumer {
 }
 
 /// The front place has no frame yet: it isn't claimed, or its frame isn't put.
-#[derive(Clone, Copy, Debug, PartialEq, Eq, Drop)]
+#[derive(Clone, Copy, Debug, PartialEq, Eq, Drop, Error)]
+#[error("place {place} has no frame yet")]
 pub struct NotReady {
     /// The front place.
     pub place: u64,
@@ -41,7 +43,7 @@ pub struct NotReady {
 
 // Takes the frame of the front place, if it is there, and leaves the slot empty.
 fn take_front(places: &Places, most: u16, seat: &mut RingSeat, place: u64) -> Option<Frame>
-    requires ring { (seat.old.table_id ≡ places.now.table_id) × (places.now.table_id.words ≡ 130 + most)
+    requires ring { (seat.old.table_id ≡ places.now.table_id) × (places.now.table_id.words ≡ PLACES + most)
         × (places.now.table_id.slots ≡ most) × (0 < most) }
     requires consumer { IsConsumer seat.old.me.0 × (seat.old.me.1 ≡ []) × (place ≡ seat.old.me.0.next) }
     ensures ring { seat.new.table_id ≡ seat.old.table_id }
@@ -71,9 +73,17 @@ impl Consumer {
         }
     }
 
-    // The freed count.
-    pub(crate) fn freed(&self) -> u64
-        ensures { result ≡ self.now.view.freed }
+    /// The front place: the first that it hasn't lifted.
+    pub fn front(&self) -> u64
+        ensures { result ≡ self.now.view.next }
+    {
+        self.front
+    }
+
+    /// The freed count: the first place that isn't free again. It is at most the front place.
+    pub fn freed(&self) -> u64
+        ensures count { result ≡ self.now.view.freed }
+        ensures behind { result ≤ self.now.view.next }
     {
         self.freed
     }

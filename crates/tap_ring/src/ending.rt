@@ -55,6 +55,7 @@ fn join_keeper(places: &Places, seat: &mut RingSeat, k: Keeper)
 {
     let Keeper {
         seat: theirs,
+        shut: _,
         epoch: _,
         resizes: _,
         claimed: _,

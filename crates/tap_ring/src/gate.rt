@@ -3,8 +3,14 @@
 ghost use Rattle.std.specs.Prelude.{◌≡◌};
 ghost use Rattle.tap_ring.specs.GateWord as parts;
 
-/// One more than the greatest claim count.
-pub(crate) const CLAIMS_END: u64 = 1 << 40;
+/// One more than the greatest claim count, which is 2^40 - 1.
+pub const CLAIMS_END: u64 = 1 << 40;
+
+/// One more than the greatest epoch, which is 65,535.
+pub const EPOCHS_END: u32 = 1 << 16;
+
+/// One more than the greatest number of resizes, which is 127.
+pub const RESIZES_END: u8 = 128;
 
 /// What shuts an open gate, and opens a shut one at the next epoch.
 pub(crate) const TURN: u64 = 1 << 40;

@@ -30,9 +30,9 @@ mod tests;
 
 pub use consumer::{Consumer, NotReady};
 pub use ending::Ended;
-pub use gate::gate_laws;
-pub use keeper::{Keeper, Reopen, ResizesSpent};
-pub use making::Parts;
+pub use gate::{CLAIMS_END, EPOCHS_END, RESIZES_END, gate_laws};
+pub use keeper::{Keeper, ResizesSpent, StaysShut};
+pub use making::{MAX_SLOTS, Parts};
 pub use producer::{Producer, PutBack, Why};
 pub use ring::TapRing;
 pub use rule::{Claim, Loaded, Moment, Plan, View};

@@ -6,7 +6,7 @@ ghost use Rattle.tap_ring.specs.Standing.{maker, maker_of, new_producers, new_co
 ghost use Rattle.tap_ring.specs.Calls.{token};
 
 use crate::consumer::Consumer;
-use crate::gate::TURN;
+use crate::gate::{CLAIMS_END, TURN};
 use crate::keeper::Keeper;
 use crate::plays::{OneProducer, TheConsumer};
 use crate::producer::Producer;
@@ -14,6 +14,9 @@ use crate::ring::TapRing;
 use crate::rule::{Places, Plan, RingSeat, RingTable};
 use crate::steps::{CAPACITIES, FREED, GATE, PLACES};
 use std::alloc::{AllocError, Global};
+
+/// The greatest number of slots of a ring.
+pub const MAX_SLOTS: u16 = 1024;
 
 /// A ring and its tokens.
 pub struct Parts {
@@ -25,7 +28,7 @@ pub struct Parts {
 
 // Shut, at epoch 0, with every place below the first free, and the first capacity.
 fn words_of(alloc: Global, most: u16, capacity: u16, first: u64) -> Result<Vec<u64>, AllocError>
-    requires { first < 2 ^ 40 }
+    requires { first < CLAIMS_END }
     ensures { IfOk result (λ w. w.items ≡ first_words most first capacity) }
 {
     let mut words: Vec<u64> = vec![in alloc; 0u64; PLACES + usize::from(most)]?;
@@ -52,9 +55,9 @@ fn deal(places: &Places, seat: &mut RingSeat, mut all: Vec<Producer>, count: u16
 }
 
 impl TapRing {
-    /// A ring with `most` slots (1 to 1,024), this capacity (1 to `most`) and this first place (below
-    /// 2^40), for so many producers (1 or more). It is shut, at epoch 0. All memory that it ever takes
-    /// is taken here, and the only error is that there is none.
+    /// A ring with `most` slots (1 to `MAX_SLOTS`), this capacity (1 to `most`) and this first place
+    /// (below `CLAIMS_END`), for so many producers (1 or more). It is shut, at epoch 0. All memory that
+    /// it ever takes is taken here, and the only error is that there is none.
     pub fn new(
         alloc: Global,
         most: u16,
@@ -62,8 +65,8 @@ impl TapRing {
         first: u64,
         producers: u16,
     ) -> Result<Parts, AllocError>
-        requires capacity { (1 ≤ capacity) × (capacity ≤ most) × (most ≤ 1024) }
-        requires first { first < 2 ^ 40 }
+        requires capacity { (1 ≤ capacity) × (capacity ≤ most) × (most ≤ MAX_SLOTS) }
+        requires first { first < CLAIMS_END }
         requires producers { 1 ≤ producers }
         ensures ring { IfOk result (λ p. (p.ring.most ≡ most)
             × (p.ring.plan ≡ record { first = first; capacity = capacity; producers = producers })) }

@@ -10,9 +10,10 @@ ghost use Rattle.tap_ring.specs.Calls.{IsProducer, SawMore, LoadedMore, SameHand
 use crate::gate::{CLAIMS_END, claimed_of, epoch_of, is_shut, resizes_of};
 use crate::ring::TapRing;
 use crate::rule::{Places, RingSeat};
-use crate::steps::{exchange_gate, load_capacity, load_freed, load_gate, store_number};
+use crate::steps::{PLACES, exchange_gate, load_capacity, load_freed, load_gate, store_number};
 use std::marker::Model;
 use tap_frame::Frame;
+use thiserror::Error;
 
 /// One of a ring's producers.
 ///
@@ -34,15 +35,19 @@ impl Model for Producer {
 }
 
 /// Why a frame wasn't placed. The first that holds is told.
-#[derive(Clone, Copy, Debug, PartialEq, Eq, Drop)]
+#[derive(Clone, Copy, Debug, PartialEq, Eq, Drop, Error)]
 pub enum Why {
     /// The gate was shut, or had another epoch than the wanted one.
+    #[error("the gate was at epoch {found} (shut: {shut})")]
     Gone { found: u16, shut: bool },
-    /// The claim count was at its end, 2^40 - 1.
+    /// The claim count was the greatest one, `CLAIMS_END` - 1.
+    #[error("the claim count was the last one, {claimed}")]
     Spent { claimed: u64 },
     /// The claim count was by the capacity or more above the freed count that was loaded after it.
+    #[error("the ring was full: the claim count was {claimed}, and the freed count {freed}")]
     Full { claimed: u64, freed: u64 },
     /// The gate changed since it was loaded: the gate word expected, and the one found.
+    #[error("the gate changed from word {expected} to {found}")]
     Contended { expected: u64, found: u64 },
 }
 
@@ -50,7 +55,7 @@ pub enum Why {
 pub struct PutBack {
     pub frame: Frame,
     pub why: Why,
-    /// The number of resizes, 0 to 127, in the gate word that the call loaded first.
+    /// The number of resizes, below `RESIZES_END`, in the gate word that the call loaded first.
     pub resizes: u8,
 }
 
@@ -86,12 +91,12 @@ fn claim(
     gate: u64,
     frame: Frame,
 ) -> Result<u64, (Frame, u64)>
-    requires ring { (seat.old.table_id ≡ places.now.table_id) × (places.now.table_id.words ≡ 130 + most)
+    requires ring { (seat.old.table_id ≡ places.now.table_id) × (places.now.table_id.words ≡ PLACES + most)
         × (places.now.table_id.slots ≡ most) × (0 < most) }
     requires producer { IsProducer seat.old.me.0 × (seat.old.me.1 ≡ []) }
     requires gate { (gate ≡ gate_of seat.old.me.0.gate) × Fits seat.old.me.0.gate }
     requires unshut { seat.old.me.0.gate.shut ≡ false }
-    requires few { seat.old.me.0.gate.claimed + 1 < 2 ^ 40 }
+    requires few { seat.old.me.0.gate.claimed + 1 < CLAIMS_END }
     requires room { seat.old.me.0.gate.claimed < seat.old.me.0.room.freed + seat.old.me.0.gate.capacity }
     ensures ring { seat.new.table_id ≡ seat.old.table_id }
     ensures producer { IsProducer seat.new.me.0 × (seat.new.me.1 ≡ []) }
@@ -115,7 +120,7 @@ fn claim(
 
 // What is told where there was no room: whether the ring was resized since.
 fn look_again(places: &Places, seat: &mut RingSeat, gate: u64, resizes: u8, freed: u64) -> Why
-    requires ring { (seat.old.table_id ≡ places.now.table_id) × (130 < places.now.table_id.words) }
+    requires ring { (seat.old.table_id ≡ places.now.table_id) × (PLACES < places.now.table_id.words) }
     requires producer { IsProducer seat.old.me.0 × (seat.old.me.1 ≡ []) }
     requires gate { (gate ≡ gate_of seat.old.me.0.asked) × Fits seat.old.me.0.asked
         × (resizes ≡ seat.old.me.0.asked.resizes) }
@@ -145,7 +150,7 @@ fn put(
     epoch: u16,
     frame: Frame,
 ) -> Result<u64, PutBack>
-    requires ring { (seat.old.table_id ≡ places.now.table_id) × (places.now.table_id.words ≡ 130 + most)
+    requires ring { (seat.old.table_id ≡ places.now.table_id) × (places.now.table_id.words ≡ PLACES + most)
         × (places.now.table_id.slots ≡ most) × (0 < most) }
     requires producer { IsProducer seat.old.me.0 × (seat.old.me.1 ≡ []) }
     ensures ring { seat.new.table_id ≡ seat.old.table_id }
@@ -192,7 +197,7 @@ impl TapRing {
     /// Claims the next place under this epoch, and puts the frame there. Gives the place.
     ///
     /// Or else gives the frame back as it was, with the first of these that holds: `Gone` where the gate
-    /// that this call loaded was shut or had another epoch, `Spent` where its claim count was 2^40 - 1,
+    /// that this call loaded was shut or had another epoch, `Spent` where its claim count was the greatest,
     /// `Full` where that count was by the capacity or more above the freed count loaded after it, and
     /// the ring wasn't resized in between, and `Contended` where the gate changed since. It never waits,
     /// and takes no memory.

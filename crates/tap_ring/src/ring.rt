@@ -18,12 +18,13 @@ pub struct TapRing {
 impl Model for TapRing {
     ghost use Rattle.std.specs.Prelude.{◌≡◌, ◌+◌, ◌<◌, ◌≤◌, [], vec_capacity};
     ghost use Rattle.tap_ring.specs.Calls.{RingValue};
+    ghost use Rattle.tap_ring.specs.declared.steps.TheConstants.{PLACES};
 
     ghost Value = { RingValue };
 
     ghost view = { λ r. record { ring = r.table.shared.table_id; plan = r.table.shared.key; most = r.most } };
 
-    ghost invariant = { λ r. (r.table.shared.table_id.words ≡ 130 + r.most)
+    ghost invariant = { λ r. (r.table.shared.table_id.words ≡ PLACES + r.most)
         × (r.table.shared.table_id.slots ≡ r.most) × (0 < r.most) × (r.left.items ≡ [])
         × (r.most ≤ vec_capacity r.left) };
 }

@@ -14,9 +14,9 @@ pub struct Moment {
     /// The freed count: the first place that isn't free again.
     pub freed: u64,
     pub shut: bool,
-    /// How often the gate was reopened, up to 65,535.
+    /// How often the gate was reopened, below `EPOCHS_END`.
     pub epoch: u16,
-    /// How often the ring was resized, up to 127.
+    /// How often the ring was resized, below `RESIZES_END`.
     pub resizes: u8,
     /// How many places may be claimed and not freed, in frames.
     pub capacity: u16,
@@ -59,8 +59,12 @@ pub struct View {
     pub opened: LinkedList<u64>,
     /// Of the keeper, the capacity that each resize was given, in order.
     pub resized: LinkedList<u16>,
+    /// Of the keeper, the claim count at the last resize; the ring's first place where there was none.
+    pub resized_from: u64,
     /// The capacity that it stored for the next number of resizes.
     pub stored: Option<u16>,
+    /// What the ring was when the tokens that joined it met it last.
+    pub met: LinkedList<Moment>,
     /// Whether another token took over what it knew.
     pub spent: bool,
     /// What the ring was when it met the gate last; of the keeper, what its own step made of it.
@@ -69,14 +73,14 @@ pub struct View {
     pub gate_loads: u64,
     /// What the ring was when it met the gate last before it loaded a capacity.
     pub asked: Moment,
-    /// How often it loaded a capacity.
-    pub capacity_loads: u64,
+    /// How often it had met the gate then.
+    pub asked_loads: u64,
     /// The capacities that it loaded, in order.
     pub loaded: LinkedList<Loaded>,
     /// What the ring was when it loaded the freed count last.
     pub room: Moment,
-    /// How often it loaded the freed count.
-    pub freed_loads: u64,
+    /// How often it had met the gate then.
+    pub room_loads: u64,
     /// The word that it found at the front place last.
     pub front: u64,
     /// How often it loaded the front place's word to see whether its frame is there.

@@ -8,7 +8,7 @@ ghost use Rattle.tap_ring.specs.declared.rule.Claim.{Claim};
 ghost use Rattle.tap_ring.specs.Moments.{gate_of};
 ghost use Rattle.tap_ring.specs.Steps as steps;
 
-use crate::gate::{RESIZE, TURN};
+use crate::gate::{CLAIMS_END, EPOCHS_END, RESIZE, RESIZES_END, TURN};
 use crate::plays::{
     Exchanges, Frees, Lifts, LoadsCapacity, LoadsFreed, LoadsFront, LoadsGate, Puts, Reopens,
     Resizes, Shuts, Stores,
@@ -25,11 +25,11 @@ pub(crate) const FREED: usize = 1;
 /// The word of the first capacity; that of the k-th number of resizes is k words on.
 pub(crate) const CAPACITIES: usize = 2;
 
-/// The word of the first slot's place.
-pub(crate) const PLACES: usize = 130;
+/// The word of the first slot's place: one more than that of the last capacity.
+pub(crate) const PLACES: usize = CAPACITIES + RESIZES_END as usize;
 
 pub(crate) fn load_gate(places: &Places, seat: &mut RingSeat) -> u64
-    requires ring { (seat.old.table_id ≡ places.now.table_id) × (130 < places.now.table_id.words) }
+    requires ring { (seat.old.table_id ≡ places.now.table_id) × (PLACES < places.now.table_id.words) }
     requires live { seat.old.me.0.spent ≡ false }
     ensures ring { seat.new.table_id ≡ seat.old.table_id }
     ensures told { steps.LoadsGate (step places.now.table_id.slots 0 0 0 none) seat.old.me result seat.new.me }
@@ -39,9 +39,9 @@ pub(crate) fn load_gate(places: &Places, seat: &mut RingSeat) -> u64
 
 /// Of the number of resizes that the gate had when it was loaded last.
 pub(crate) fn load_capacity(places: &Places, seat: &mut RingSeat, resizes: u8) -> u64
-    requires ring { (seat.old.table_id ≡ places.now.table_id) × (130 < places.now.table_id.words) }
+    requires ring { (seat.old.table_id ≡ places.now.table_id) × (PLACES < places.now.table_id.words) }
     requires live { seat.old.me.0.spent ≡ false }
-    requires resizes { (resizes ≡ seat.old.me.0.gate.resizes) × (resizes < 128) }
+    requires resizes { (resizes ≡ seat.old.me.0.gate.resizes) × (resizes < RESIZES_END) }
     ensures ring { seat.new.table_id ≡ seat.old.table_id }
     ensures told { steps.LoadsCapacity (step places.now.table_id.slots 0 0 0 none) seat.old.me result seat.new.me }
 {
@@ -49,7 +49,7 @@ pub(crate) fn load_capacity(places: &Places, seat: &mut RingSeat, resizes: u8) -
 }
 
 pub(crate) fn load_freed(places: &Places, seat: &mut RingSeat) -> u64
-    requires ring { (seat.old.table_id ≡ places.now.table_id) × (130 < places.now.table_id.words) }
+    requires ring { (seat.old.table_id ≡ places.now.table_id) × (PLACES < places.now.table_id.words) }
     requires live { seat.old.me.0.spent ≡ false }
     ensures ring { seat.new.table_id ≡ seat.old.table_id }
     ensures told { steps.LoadsFreed (step places.now.table_id.slots 0 0 0 none) seat.old.me result seat.new.me }
@@ -64,12 +64,12 @@ pub(crate) fn exchange_gate(
     gate: u64,
     item: &Option<Frame>,
 ) -> u64
-    requires ring { (seat.old.table_id ≡ places.now.table_id) × (130 < places.now.table_id.words) }
+    requires ring { (seat.old.table_id ≡ places.now.table_id) × (PLACES < places.now.table_id.words) }
     requires live { (seat.old.me.0.spent ≡ false) × (seat.old.me.0.putting ≡ None) × (seat.old.me.0.parts ≢ 0) }
     requires item { (frame : FrameValue) × (item.now ≡ Some frame) }
     requires gate { (gate ≡ gate_of seat.old.me.0.gate) × (gate + 1 < 2 ^ 64) }
     requires unshut { seat.old.me.0.gate.shut ≡ false }
-    requires few { seat.old.me.0.gate.claimed + 1 < 2 ^ 40 }
+    requires few { seat.old.me.0.gate.claimed + 1 < CLAIMS_END }
     requires room { seat.old.me.0.gate.claimed < seat.old.me.0.room.freed + seat.old.me.0.gate.capacity }
     ensures ring { seat.new.table_id ≡ seat.old.table_id }
     ensures told { steps.Exchanges
@@ -80,8 +80,8 @@ pub(crate) fn exchange_gate(
 
 /// Stores the place's number: its frame lies in its slot.
 pub(crate) fn store_number(places: &Places, seat: &mut RingSeat, slot: usize, number: u64)
-    requires ring { (seat.old.table_id ≡ places.now.table_id) × (130 + slot < places.now.table_id.words)
-        × (130 + slot < 2 ^ 64) }
+    requires ring { (seat.old.table_id ≡ places.now.table_id) × (PLACES + slot < places.now.table_id.words)
+        × (PLACES + slot < 2 ^ 64) }
     requires claim { (c : Claim) × (seat.old.me.0.putting ≡ Some c)
         × (seat.old.me.1 ≡ (slot, Some c.frame) ∷ rest seat.old.me.1)
         × (slot ≡ c.place % places.now.table_id.slots) × (number ≡ c.place + 1) }
@@ -93,21 +93,21 @@ pub(crate) fn store_number(places: &Places, seat: &mut RingSeat, slot: usize, nu
 
 /// The word of the front place. Where it is the place's number, the slot is the seat's.
 pub(crate) fn load_front(places: &Places, seat: &mut RingSeat, slot: usize) -> u64
-    requires ring { (seat.old.table_id ≡ places.now.table_id) × (130 + slot < places.now.table_id.words)
-        × (130 + slot < 2 ^ 64) }
+    requires ring { (seat.old.table_id ≡ places.now.table_id) × (PLACES + slot < places.now.table_id.words)
+        × (PLACES + slot < 2 ^ 64) }
     requires consumer { (seat.old.me.0.takes ≡ true) × (seat.old.me.0.in_hand ≡ None) }
     requires slot { slot ≡ seat.old.me.0.next % places.now.table_id.slots }
     ensures ring { seat.new.table_id ≡ seat.old.table_id }
     ensures told { steps.LoadsFront
-        (step places.now.table_id.slots (130 + slot) 0 0 none) seat.old.me result seat.new.me }
+        (step places.now.table_id.slots (PLACES + slot) 0 0 none) seat.old.me result seat.new.me }
 {
     places.load::<LoadsFront>(seat, PLACES + slot)
 }
 
 /// The slot of the front place goes back: its frame is lifted.
 pub(crate) fn give_front(places: &Places, seat: &mut RingSeat, slot: usize)
-    requires ring { (seat.old.table_id ≡ places.now.table_id) × (130 + slot < places.now.table_id.words)
-        × (130 + slot < 2 ^ 64) }
+    requires ring { (seat.old.table_id ≡ places.now.table_id) × (PLACES + slot < places.now.table_id.words)
+        × (PLACES + slot < 2 ^ 64) }
     requires consumer { (seat.old.me.0.takes ≡ true) × ((frame : FrameValue) × (seat.old.me.0.in_hand ≡ Some frame)) }
     requires slot { (slot ≡ seat.old.me.0.next % places.now.table_id.slots)
         × (seat.old.me.1 ≡ (slot, None) ∷ rest seat.old.me.1) }
@@ -119,7 +119,7 @@ pub(crate) fn give_front(places: &Places, seat: &mut RingSeat, slot: usize)
 
 /// One more place is free. Gives the freed count before.
 pub(crate) fn add_freed(places: &Places, seat: &mut RingSeat) -> u64
-    requires ring { (seat.old.table_id ≡ places.now.table_id) × (130 < places.now.table_id.words) }
+    requires ring { (seat.old.table_id ≡ places.now.table_id) × (PLACES < places.now.table_id.words) }
     requires consumer { (seat.old.me.0.takes ≡ true) × (seat.old.me.0.freed < seat.old.me.0.next) }
     ensures ring { seat.new.table_id ≡ seat.old.table_id }
     ensures told { steps.Frees (step places.now.table_id.slots 0 0 0 none) seat.old.me result seat.new.me }
@@ -129,7 +129,7 @@ pub(crate) fn add_freed(places: &Places, seat: &mut RingSeat) -> u64
 
 /// Gives the gate word before.
 pub(crate) fn shut_gate(places: &Places, seat: &mut RingSeat) -> u64
-    requires ring { (seat.old.table_id ≡ places.now.table_id) × (130 < places.now.table_id.words) }
+    requires ring { (seat.old.table_id ≡ places.now.table_id) × (PLACES < places.now.table_id.words) }
     requires keeper { (seat.old.me.0.spent ≡ false) × (seat.old.me.0.keeps ≡ true) × (seat.old.me.0.gate.shut ≡ false) }
     ensures ring { seat.new.table_id ≡ seat.old.table_id }
     ensures told { steps.Shuts (step places.now.table_id.slots 0 0 0 none) seat.old.me result seat.new.me }
@@ -139,9 +139,9 @@ pub(crate) fn shut_gate(places: &Places, seat: &mut RingSeat) -> u64
 
 /// Gives the gate word before.
 pub(crate) fn reopen_gate(places: &Places, seat: &mut RingSeat) -> u64
-    requires ring { (seat.old.table_id ≡ places.now.table_id) × (130 < places.now.table_id.words) }
+    requires ring { (seat.old.table_id ≡ places.now.table_id) × (PLACES < places.now.table_id.words) }
     requires keeper { (seat.old.me.0.spent ≡ false) × (seat.old.me.0.keeps ≡ true) × (seat.old.me.0.gate.shut ≡ true) }
-    requires few { seat.old.me.0.gate.epoch + 1 < 2 ^ 16 }
+    requires few { seat.old.me.0.gate.epoch + 1 < EPOCHS_END }
     ensures ring { seat.new.table_id ≡ seat.old.table_id }
     ensures told { steps.Reopens (step places.now.table_id.slots 0 0 0 none) seat.old.me result seat.new.me }
 {
@@ -150,9 +150,9 @@ pub(crate) fn reopen_gate(places: &Places, seat: &mut RingSeat) -> u64
 
 /// Of the next number of resizes.
 pub(crate) fn store_capacity(places: &Places, seat: &mut RingSeat, resizes: u8, capacity: u16)
-    requires ring { (seat.old.table_id ≡ places.now.table_id) × (130 < places.now.table_id.words) }
+    requires ring { (seat.old.table_id ≡ places.now.table_id) × (PLACES < places.now.table_id.words) }
     requires keeper { seat.old.me.0.keeps ≡ true }
-    requires resizes { (resizes ≡ seat.old.me.0.gate.resizes) × (resizes + 1 < 2 ^ 7) }
+    requires resizes { (resizes ≡ seat.old.me.0.gate.resizes) × (resizes + 1 < RESIZES_END) }
     requires capacity { capacity ≤ places.now.table_id.slots }
     ensures ring { seat.new.table_id ≡ seat.old.table_id }
     ensures told { seat.new.me ≡ (record (seat.old.me.0) { stored = Some capacity }, seat.old.me.1) }
@@ -166,7 +166,7 @@ pub(crate) fn store_capacity(places: &Places, seat: &mut RingSeat, resizes: u8, 
 
 /// Gives the gate word before.
 pub(crate) fn add_resize(places: &Places, seat: &mut RingSeat) -> u64
-    requires ring { (seat.old.table_id ≡ places.now.table_id) × (130 < places.now.table_id.words) }
+    requires ring { (seat.old.table_id ≡ places.now.table_id) × (PLACES < places.now.table_id.words) }
     requires keeper { (seat.old.me.0.spent ≡ false) × (seat.old.me.0.keeps ≡ true) }
     requires stored { (c : ℕ) × (seat.old.me.0.stored ≡ Some c) }
     ensures ring { seat.new.table_id ≡ seat.old.table_id }

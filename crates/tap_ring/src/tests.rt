@@ -4,7 +4,7 @@ ghost use Rattle.std.specs.Prelude.{◌≡◌};
 
 mod threads;
 
-use crate::{Consumer, Ended, NotReady, Parts, Producer, PutBack, Reopen, TapRing, Why};
+use crate::{Consumer, Ended, NotReady, Parts, Producer, PutBack, StaysShut, TapRing, Why};
 use std::alloc::Global;
 use std::test::Fail;
 use tap_frame::{BadFrame, Frame, Name, Shape, read_frame};
@@ -82,7 +82,7 @@ const SHUT: Why = Why::Gone {
     shut: true,
 };
 
-const UNDRAINED: Reopen = Reopen::NotDrained {
+const UNDRAINED: StaysShut = StaysShut::NotDrained {
     claimed: 3,
     freed: 1,
 };

@@ -8,8 +8,8 @@ use Rattle.scen_words.specs.declared.command.Command.{Command}
 use Rattle.scen_words.specs.declared.command.Command.TheVariants as command
 use Rattle.tap_world.specs.ByNumber.{at}
 use Rattle.tap_world.specs.Line.{File, first_that, in_batch, in_ring, last_that}
-use Rattle.tap_world.specs.Line.Standing.{Batched, Cut, Out}
-use Rattle.tap_world.specs.Line.{Standing}
+use Rattle.tap_world.specs.declared.line.Standing.TheVariants.{Batched, Cut, Out}
+use Rattle.tap_world.specs.declared.line.Standing.{Standing}
 use Rattle.tap_world.specs.LineSteps.{Change, changed, may_leave, moves_to, ready_front}
 use Rattle.tap_world.specs.LineSteps.Change.{Claims, Cuts, Leaves, Moves, Owned, Puts, PutsBack, Reopens, Shuts, Sizes, Takes}
 use Rattle.tap_world.specs.World.{Doing}

@@ -11,7 +11,7 @@ use Rattle.vhost_dev.specs.Refusals.{number_refusal, ready_refusal}
 use Rattle.vhost_dev.specs.Settings.{ring_at}
 use Rattle.scen_words.specs.declared.command.Command.{Command}
 use Rattle.tap_trace.specs.declared.answer.Answer.{Answer}
-use Rattle.tap_trace.specs.declared.causes.TapText.{TapText}
+use Rattle.tap_ledger.specs.declared.error.TapErr.{TapErr as TapText}
 use Rattle.tap_world.specs.declared.event.Event.{Event}
 use Rattle.tap_world.specs.Setup.{Setup}
 use Rattle.tap_world.specs.Guests.{Vhost, is_ring, with_turn}
@@ -320,7 +320,7 @@ backings_between s w x u t can (Withdrawing y file is of no_ eq) view_ fits h =
     (at_view w t.between _ (Withdraws file) _ _ t.now.command is (ap (doing_after t.effect.onward) is) view_) refl refl refl in
     even s w x u t (Withdraws file) (Withdrawn file (newest w + 1)) (Some t.now.command) (Some t.now.command) (y ∷ []) v.0 v.1 (ops_on s w x u t _ eq)
     (from_none s w x u t (on_vhosts s w x u t _ eq)) (λ q i. op_backs s t.now.command y (table s w) of q i) h
-backings_between s w x u t can (Learning file hash o f g v wr alike) view_ fits h =
+backings_between s w x u t can (Learning file hash o f g v wr free alike) view_ fits h =
     steady_backs s w x u t (op.Learn file hash ∷ []) (alike_view w t.between t.actor.doing t.effect.onward t.now.command alike view_) o (learn_same (table s w) file hash) (from_none s w x u t v) h
 backings_between s w x u t can (BackPublishes vhost ring asked cis eq) view_ fits h =
     let v = subst (View w t.between t.actor.doing (doing_after t.effect.onward t.actor.doing)) cis view_ in

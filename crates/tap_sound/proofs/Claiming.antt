@@ -15,7 +15,7 @@ use Rattle.vring_turns.specs.RxTurn.{RxTurn, rx_step}
 use Rattle.vring_turns.specs.TxTurn.{TxTurn, tx_step}
 use Rattle.scen_words.specs.declared.command.Command.{Command}
 use Rattle.scen_words.specs.declared.command.Command.TheVariants as command
-use Rattle.tap_trace.specs.declared.causes.TapText.{TapText}
+use Rattle.tap_ledger.specs.declared.error.TapErr.{TapErr as TapText}
 use Rattle.tap_trace.specs.declared.answer.Answer.{Answer}
 use Rattle.tap_trace.specs.declared.turn.ChainText.{ChainText}
 use Rattle.tap_world.specs.declared.event.EventKind.{EventKind}
@@ -49,7 +49,7 @@ use Rattle.tap_world.specs.StepTransmits as tx_turns
 use Rattle.tap_sound.proofs.Kit.{WhereSome, either, where_if, where_only, where_then}
 use Rattle.tap_sound.proofs.Steps.{held, or_else, own, owning, publication, turning}
 use Rattle.tap_frame.specs.declared.reading.BadFrame.{BadFrame}
-use Rattle.tap_steer.specs.declared.error.TapErr.{TapErr}
+use Rattle.tap_ledger.specs.declared.error.TapErr.{TapErr}
 use Rattle.tap_steer.specs.declared.selection.Select.{Select}
 use Rattle.tap_steer.specs.declared.selection.Select.TheVariants as select
 use Rattle.tap_steer.specs.Select as steer
@@ -79,7 +79,7 @@ AllClaim w me o = WhereSome (Claiming w me) o
 
 -- ---- looks
 
-approved : (w : World) (me : ℕ) (actor : ℕ) (d : Doing) (x : Option TapErr) → Claiming w me (tables.approved w actor d x)
+approved : (w : World) (me : ℕ) (actor : ℕ) (d : Doing) (x : Option TapErr) → Claiming w me (tables.decided w actor d x)
 approved w me actor d None = tt
 approved w me actor d (Some x) = tt
 
@@ -122,7 +122,7 @@ looks s w me actor a n c = go (op_of s c)
   where
     go : (o : Option Op) → AllClaim w me (option_map_or (tables.looks_to_change (table s w) w actor) o (tables.looks_at (table s w) w (name_of actor n) c))
     go None = looks_at w me (table s w) (name_of actor n) c
-    go (Some x) = where_only (Claiming w me) (is_none w.writer) (tables.approved w actor (tables.course (table s w) x) (refuse (table s w) x)) (λ e. approved w me actor _ _)
+    go (Some x) = where_only (Claiming w me) (is_none w.writer) (tables.decided w actor (tables.course (table s w) x) (refuse (table s w) x)) (λ e. approved w me actor _ _)
 
 looks_at_flow : (s : Setup) (w : World) (me : ℕ) (d : Doing) → AllClaim w me (tx_turns.looks_at_flow s w d)
 looks_at_flow s w me (Given file t told f) = tt
@@ -243,7 +243,7 @@ pokes w me seen c = tt
 
 calls : (w : World) (me : ℕ) (actor seen : ℕ) (c : Command) → AllClaim w me (control.calls w actor seen c)
 calls w me actor seen c =
-    where_then (Claiming w me) (control.vhost_of c) _ (λ vhost e1. where_then (Claiming w me) (at w.vhosts vhost) _ (λ v e2. where_then (Claiming w me) (at w.guests v.guest) _
+    where_then (Claiming w me) (control.driven_vhost c) _ (λ vhost e1. where_then (Claiming w me) (at w.vhosts vhost) _ (λ v e2. where_then (Claiming w me) (at w.guests v.guest) _
     (λ g e3. where_then (Claiming w me) (control.call_of c v g.memory) _ (λ x e4. where_only (Claiming w me) _ (control.call_effect w seen vhost v.guest x) (λ y. tt)))))
 
 sets_back : (w : World) (me : ℕ) (actor seen vhost r file : ℕ) (x : Option TapText) (v : Vhost) (m : Contents) (a : Option Answer)
@@ -295,7 +295,7 @@ tx_steps_on : (w : World) (me actor seen vhost file : ℕ) (t : TxTurn) (told : 
     → AllClaim w me (tx_turns.tx_steps_on w actor seen vhost file t told v m)
 tx_steps_on w me actor seen vhost file t told v m = where_then (Claiming w me) (tx_step (tx_turns.tx_state t v m)) _ (λ made x. tt)
 
-begins : (w : World) (me actor n seen : ℕ) (c : Command) → AllClaim w me (tx_turns.begins w actor n seen c)
+begins : (w : World) (me actor n seen : ℕ) (c : Command) → AllClaim w me (tx_turns.turn_begins w actor n seen c)
 begins w me actor n seen c = where_then (Claiming w me) (rx_turns.turn_on c) _ (λ t e1. where_then (Claiming w me) (at w.vhosts t.0) _ (λ v e2. where_then (Claiming w me) (at w.guests v.guest) _
     (λ g e3. either (AllClaim w me) (t.1 == 0) (rx_turns.rx_begins w actor seen t.0 v g.memory) (tx_turns.tx_begins w actor n seen t.0 v g.memory)
     (where_then (Claiming w me) v.settings.rx.file _ (λ file e4. where_if (Claiming w me) (is_free 0 v && is_none v.settings.rx.queue.stopped)
@@ -318,7 +318,7 @@ hands s w me actor seen (Receives file t) c = turning (Claiming w me) w c _ (λ 
     (λ frame e3. where_then (Claiming w me) (rx_step (hand.Got frame) (rx_turns.rx_state t v m)) _ (λ made e. tt)))))
 hands s w me actor seen d c = tt
 
-finds_nothing : (w : World) (me actor seen : ℕ) (d : Doing) (c : Command) → AllClaim w me (tx_turns.finds_nothing w actor seen d c)
+finds_nothing : (w : World) (me actor seen : ℕ) (d : Doing) (c : Command) → AllClaim w me (tx_turns.turn_finds_none w actor seen d c)
 finds_nothing w me actor seen (Receives file t) c = turning (Claiming w me) w c _ (λ vhost v m. where_then (Claiming w me) (at w.files file) _
     (λ f e1. where_then (Claiming w me) (rx_step (hand.NotReady (front_place f)) (rx_turns.rx_state t v m)) _
     (λ made e. where_only (Claiming w me) _ (rx_turns.rx_event w actor seen vhost file v NoFile (found.NotReady (front_place f)) made) (λ x. tt))))
@@ -349,7 +349,7 @@ row_claims s w event.Hand actor a n c = hands s w actor actor a.seen a.doing c
 row_claims s w event.PutBack actor a n c = turns w actor actor n a.seen a.doing c
 row_claims s w event.Out actor a n c = or_else (Claiming w actor) (ring.leaves s w a.seen a.doing) (tx_turns.turns w actor n a.seen a.doing c)
     (leaves s w actor a.seen a.doing) (turns w actor actor n a.seen a.doing c)
-row_claims s w event.NotReady actor a n c = or_else (Claiming w actor) (ring.finds_none w a.seen a.doing) (tx_turns.finds_nothing w actor a.seen a.doing c)
+row_claims s w event.NotReady actor a n c = or_else (Claiming w actor) (ring.finds_none w a.seen a.doing) (tx_turns.turn_finds_none w actor a.seen a.doing c)
     (finds_none w actor a.seen a.doing) (finds_nothing w actor actor a.seen a.doing c)
 row_claims s w event.Owner actor a n c = owning (Claiming w actor) w actor a.seen a.doing c (owns w actor a.seen a.doing c)
     (meets_worker w actor a.seen a.doing) (finds_off w actor a.seen a.doing c)

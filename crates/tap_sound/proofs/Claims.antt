@@ -9,11 +9,13 @@ use Rattle.tap_world.specs.declared.event.EventKind.TheVariants as event
 use Rattle.tap_world.specs.declared.event.Heard.{Heard}
 use Rattle.tap_world.specs.ByNumber.{at, with_at, with_nth}
 use Rattle.tap_world.specs.Setup.{Setup}
-use Rattle.tap_world.specs.Line.{Entry, File, Standing, claimed}
-use Rattle.tap_world.specs.Line.Standing.{Batched, Claimed, Cut, Out, Ready}
+use Rattle.tap_world.specs.declared.line.Entry.{Entry}
+use Rattle.tap_world.specs.declared.line.Standing.{Standing}
+use Rattle.tap_world.specs.Line.{File, claimed}
+use Rattle.tap_world.specs.declared.line.Standing.TheVariants.{Batched, Claimed, Cut, Out, Ready}
 use Rattle.tap_world.specs.LineSteps.{Change, changed, filled, restand}
 use Rattle.tap_world.specs.LineSteps.Change.{Claims, Cuts, Leaves, Moves, Owned, Puts, PutsBack, Reopens, Shuts, Sizes, Takes}
-use Rattle.tap_world.specs.Then.{only_if}
+use Rattle.tap_ground.specs.Options.{only_if}
 use Rattle.tap_world.specs.Line.{first_that, has_batch, in_batch, in_ring, last_that}
 use Rattle.tap_world.specs.LineSteps.{may_leave, moves_to, ready_front}
 use Rattle.tap_world.specs.World.{Actor, Doing, World}

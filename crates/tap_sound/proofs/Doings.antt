@@ -1,9 +1,9 @@
 -- Each event that is allowed is one that is left to its command.
+use Rattle.tap_sound.proofs.TurnEvents.{unset_where, set_where}
 use Rattle.std.proofs.Common.{◌≡◌, ℕ, suc, ◌+◌, List, [], ◌∷◌, Bool, true, false, Option, Some, None, inl, inr, refl, sym, ap, subst}
 use Rattle.std.specs.Prelude.{if◌then◌else◌, ◌==◌, ◌||◌, is_none, is_some, slice_get}
 use Rattle.guest_mem.specs.Memory.{Contents}
 use Rattle.tap_ledger.specs.declared.fate.Cause.{Cause}
-use Rattle.vhost_dev.specs.declared.error.VhostErr.{VhostErr}
 use Rattle.vring_turns.specs.declared.stage.RxStage.{RxStage}
 use Rattle.vring_turns.specs.declared.stage.RxStage.TheVariants as rx
 use Rattle.vring_turns.specs.declared.stage.TxStage.{TxStage}
@@ -12,7 +12,7 @@ use Rattle.vring_turns.specs.RxTurn.{RxTurn}
 use Rattle.vring_turns.specs.TxTurn.{TxTurn}
 use Rattle.scen_words.specs.declared.command.Command.{Command}
 use Rattle.scen_words.specs.declared.command.Command.TheVariants as command
-use Rattle.tap_trace.specs.declared.causes.TapText.{TapText}
+use Rattle.tap_ledger.specs.declared.error.TapErr.{TapErr as TapText}
 use Rattle.tap_trace.specs.declared.answer.Answer.{Answer}
 use Rattle.tap_trace.specs.declared.turn.ChainText.{ChainText}
 use Rattle.tap_world.specs.declared.event.EventKind.{EventKind}
@@ -24,14 +24,13 @@ use Rattle.tap_world.specs.Frames.{Front}
 use Rattle.vhost_dev.specs.Refusals.{number_refusal}
 use Rattle.vhost_dev.specs.Settings.{ring_at}
 use Rattle.std.proofs.Common.{true≢false}
-use Rattle.tap_world.specs.Setup.{Numbered, Setup}
+use Rattle.tap_world.specs.Setup.{Numbered, Setup, frame_of}
 use Rattle.tap_world.specs.Line.{File, first_that, front_place, has_batch, in_batch, in_ring, is_full, is_gone, is_over, is_spent, last_that}
 use Rattle.tap_world.specs.LineSteps.{ready_front}
 use Rattle.tap_world.specs.Guests.{Vhost}
 use Rattle.tap_world.specs.World.{Doing, World, newest}
 use Rattle.tap_world.specs.World.Doing.{Backed, Backs, Begun, Changes, Disowned, Given, Hosts, Learns, Opened, Opens, Owns, Placed, Purges, Reads, Receives, Released, Resizes, Routed, Shrinks, Teaches, Transmits, Unbacked, Withdrawn, Withdraws}
 use Rattle.tap_world.specs.Effect.{Effect, only}
-use Rattle.tap_flow_key.specs.FlowKey.{hash}
 use Rattle.tap_steer.specs.declared.operation.Op.TheVariants as op
 use Rattle.tap_trace.specs.declared.answer.Answer.TheVariants as answer
 use Rattle.tap_world.specs.declared.event.Found.TheVariants as found
@@ -42,7 +41,7 @@ use Rattle.tap_world.specs.StepBackend as back
 use Rattle.tap_world.specs.StepRing as ring
 use Rattle.tap_world.specs.StepTable as tables
 use Rattle.tap_world.specs.StepTransmits as tx_turns
-use Rattle.tap_sound.proofs.Kit.{either, where_only, where_then}
+use Rattle.tap_sound.proofs.Kit.{either, where_only, where_then, where_if}
 use Rattle.tap_sound.proofs.Left.{left_of}
 use Rattle.tap_sound.proofs.Rows.{rx_kind, tx_kind}
 use Rattle.tap_sound.proofs.Steps.{Gives, give_follows, hand_follows, held, none_follows, or_else, own, owning, publication, rx_follows, turning, tx_follows}
@@ -56,7 +55,7 @@ sets : (w : World) (actor seen vhost r file : ℕ) (x : Option TapText) (v : Vho
 sets w actor seen vhost r file x v m (Some a) = (refl, inl refl)
 sets w actor seen vhost r file x v m None = λ es h. (refl, inr h)
 
-unsets : (w : World) (actor seen vhost r : ℕ) (x : Option TapText) (v : Vhost) (m : Contents) (a : Option VhostErr) (file : Option ℕ)
+unsets : (w : World) (actor seen vhost r : ℕ) (x : Option TapText) (v : Vhost) (m : Contents) (a : Option Answer) (file : Option ℕ)
     → Follows (Backs x) (command.Backend vhost r None) event.Drive (back.unsets_back w actor seen vhost r v m a file)
 unsets w actor seen vhost r x v m (Some a) file = (refl, inl refl)
 unsets w actor seen vhost r x v m None None = (refl, inl refl)
@@ -71,8 +70,8 @@ backs_follow : (s : Setup) (w : World) (actor seen : ℕ) (x : Option TapText) (
     → AllFollow (Backs x) c event.Drive (back.backs s w actor seen (Backs x) c)
 backs_follow s w actor seen x (command.Backend vhost r None) =
     let P : Effect → Type 0 = Follows (Backs x) (command.Backend vhost r None) event.Drive in
-    where_then P (at w.vhosts vhost) _ (λ v e1. where_then P (at w.guests v.guest) _ (λ g e2. where_only P _ _
-    (λ b. unsets w actor seen vhost r x v g.memory (number_refusal r) (ring_at r v.settings).file)))
+    where_then P (at w.vhosts vhost) _ (λ v e1. where_then P (at w.guests v.guest) _ (λ g e2. where_if P _ _
+    (λ b. unset_where P s w actor seen x vhost r v g.memory (λ told e. unsets w actor seen vhost r x v g.memory told (ring_at r v.settings).file))))
 backs_follow s w actor seen x (command.Backend vhost r (Some file)) =
     let P : Effect → Type 0 = Follows (Backs x) (command.Backend vhost r (Some file)) event.Drive in
     where_then P (at w.vhosts vhost) _ (λ v e1. where_then P (at w.guests v.guest) _ (λ g e2. where_only P _ _
@@ -133,7 +132,7 @@ reads_out : (s : Setup) (w : World) (actor n seen file room : ℕ) (front : Fron
 reads_out s w actor n seen file room front c =
     let P : Effect → Type 0 = Follows (Reads file room front) c event.Out in
     or_else P (ring.leaves s w seen (Reads file room front)) (tx_turns.turns w actor n seen (Reads file room front) c)
-    (where_then P (at w.files file) _ (λ f e1. where_then P (first_that in_batch f.line) _ (λ i e2. where_then P (slice_get f.line i) _ (λ x e3. (0, inr (inl (refl, refl)))))))
+    (where_then P (at w.files file) _ (λ f e1. where_then P (first_that in_batch f.line) _ (λ i e2. where_then P (slice_get f.line i) _ (λ x e3. where_then P (frame_of s x.name x.len) _ (λ q e4. (0, inr (inl (refl, refl))))))))
     (turning P w c (tx_turns.goes_on w actor seen (Reads file room front)) (λ vhost v m. tt))
 
 reads_none : (w : World) (actor seen file room : ℕ) (front : Front) (c : Command)
@@ -262,5 +261,5 @@ row_follows s w actor seen script n (Teaches file t told f) c k e =
     at_kind (RowFollows s w actor seen script n (Teaches file t told f) c) k event.Publish e
     (publication (Follows (Teaches file t told f) c event.Publish) s w actor (Teaches file t told f) c tt
     (where_only (Follows (Teaches file t told f) c event.Publish) (is_none w.writer)
-    (record (only (Goes (newest w + 1) (Transmits file t told) (found.Version (newest w + 1))) w) { ops = op.Learn file (hash f.made) ∷ [] }) (λ b es h. (refl, h)))
+    (record (only (Goes (newest w + 1) (Transmits file t told) (found.Version (newest w + 1))) w) { ops = op.Learn file f.flow ∷ [] }) (λ b es h. (refl, h)))
     (own (Follows (Teaches file t told f) c event.Publish) s w actor (Teaches file t told f) c (λ x. tt)))

@@ -34,7 +34,7 @@ use Rattle.vhost_dev.specs.Laws.Call.{SetAddr, SetBackend, SetBase, SetFeatures,
 use Rattle.vhost_dev.specs.Refusals.{number_refusal, ready_refusal}
 use Rattle.std.proofs.lemmas.Bool.Decides.{eqb_tells}
 use Rattle.tap_trace.specs.declared.answer.Answer.{Answer}
-use Rattle.tap_trace.specs.declared.causes.TapText.{TapText}
+use Rattle.tap_ledger.specs.declared.error.TapErr.{TapErr as TapText}
 use Rattle.tap_sound.proofs.CallRings.{BothRings, DevLaws, call_keeps, call_regions}
 use Rattle.tap_sound.proofs.Calls.{Called, called_is}
 use Rattle.tap_sound.proofs.Calls.Called.{Addr, Base, Features, Num, Untouched}

@@ -4,8 +4,10 @@ use Rattle.std.specs.Prelude.{if◌then◌else◌, slice_get, option_map}
 use Rattle.std.specs.List.{AllByRecursion}
 use Rattle.std.specs.Option.{option_map_or}
 use Rattle.tap_ledger.specs.declared.fate.Fate.{Fate}
-use Rattle.tap_world.specs.Line.{Entry, Standing, count, first_that, in_batch, in_ring, is_kept, last_that, or_here}
-use Rattle.tap_world.specs.Line.Standing.{Batched, Claimed, Cut, Out, Ready}
+use Rattle.tap_world.specs.declared.line.Entry.{Entry}
+use Rattle.tap_world.specs.declared.line.Standing.{Standing}
+use Rattle.tap_world.specs.Line.{count, first_that, in_batch, in_ring, is_kept, last_that, or_here}
+use Rattle.tap_world.specs.declared.line.Standing.TheVariants.{Batched, Claimed, Cut, Out, Ready}
 use Rattle.tap_world.specs.LineSteps.{filled, ready_front, restand}
 use Rattle.tap_world.specs.Sound.{ComesLast, InThreeParts, NeverFall, is_cut, rank}
 use Rattle.tap_sound.proofs.Kit.{only_some, some_same, then_some}

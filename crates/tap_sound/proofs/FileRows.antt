@@ -15,7 +15,7 @@ use Rattle.vring_turns.specs.RxTurn.{RxTurn, rx_step}
 use Rattle.vring_turns.specs.TxTurn.{TxTurn, tx_step}
 use Rattle.scen_words.specs.declared.command.Command.{Command}
 use Rattle.scen_words.specs.declared.command.Command.TheVariants as command
-use Rattle.tap_trace.specs.declared.causes.TapText.{TapText}
+use Rattle.tap_ledger.specs.declared.error.TapErr.{TapErr as TapText}
 use Rattle.tap_trace.specs.declared.answer.Answer.{Answer}
 use Rattle.tap_trace.specs.declared.turn.ChainText.{ChainText}
 use Rattle.tap_world.specs.declared.event.EventKind.{EventKind}
@@ -48,7 +48,7 @@ use Rattle.tap_world.specs.StepTransmits as tx_turns
 use Rattle.tap_sound.proofs.Kit.{WhereSome, either, where_if, where_only, where_then}
 use Rattle.tap_sound.proofs.Steps.{held, or_else, own, owning, publication, turning}
 use Rattle.tap_frame.specs.declared.reading.BadFrame.{BadFrame}
-use Rattle.tap_steer.specs.declared.error.TapErr.{TapErr}
+use Rattle.tap_ledger.specs.declared.error.TapErr.{TapErr}
 use Rattle.tap_steer.specs.declared.selection.Select.{Select}
 use Rattle.tap_steer.specs.declared.selection.Select.TheVariants as select
 use Rattle.tap_steer.specs.Select as steer
@@ -84,7 +84,7 @@ AllMake k o = WhereSome (Makes k) o
 
 -- ---- looks
 
-approved : (w : World) (k : EventKind) (actor : ℕ) (d : Doing) (x : Option TapErr) → Makes k (tables.approved w actor d x)
+approved : (w : World) (k : EventKind) (actor : ℕ) (d : Doing) (x : Option TapErr) → Makes k (tables.decided w actor d x)
 approved w k actor d None = tt
 approved w k actor d (Some x) = tt
 
@@ -127,7 +127,7 @@ looks s w k actor a n c = go (op_of s c)
   where
     go : (o : Option Op) → AllMake k (option_map_or (tables.looks_to_change (table s w) w actor) o (tables.looks_at (table s w) w (name_of actor n) c))
     go None = looks_at w k (table s w) (name_of actor n) c
-    go (Some x) = where_only (Makes k) (is_none w.writer) (tables.approved w actor (tables.course (table s w) x) (refuse (table s w) x)) (λ e. approved w k actor _ _)
+    go (Some x) = where_only (Makes k) (is_none w.writer) (tables.decided w actor (tables.course (table s w) x) (refuse (table s w) x)) (λ e. approved w k actor _ _)
 
 looks_at_flow : (s : Setup) (w : World) (k : EventKind) (d : Doing) → AllMake k (tx_turns.looks_at_flow s w d)
 looks_at_flow s w k (Given file t told f) = tt
@@ -248,7 +248,7 @@ pokes w k seen c = tt
 
 calls : (w : World) (k : EventKind) (actor seen : ℕ) (c : Command) → AllMake k (control.calls w actor seen c)
 calls w k actor seen c =
-    where_then (Makes k) (control.vhost_of c) _ (λ vhost e1. where_then (Makes k) (at w.vhosts vhost) _ (λ v e2. where_then (Makes k) (at w.guests v.guest) _
+    where_then (Makes k) (control.driven_vhost c) _ (λ vhost e1. where_then (Makes k) (at w.vhosts vhost) _ (λ v e2. where_then (Makes k) (at w.guests v.guest) _
     (λ g e3. where_then (Makes k) (control.call_of c v g.memory) _ (λ x e4. where_only (Makes k) _ (control.call_effect w seen vhost v.guest x) (λ y. tt)))))
 
 sets_back : (w : World) (k : EventKind) (actor seen vhost r file : ℕ) (x : Option TapText) (v : Vhost) (m : Contents) (a : Option Answer)
@@ -300,7 +300,7 @@ tx_steps_on : (w : World) (k : EventKind) (actor seen vhost file : ℕ) (t : TxT
     → AllMake k (tx_turns.tx_steps_on w actor seen vhost file t told v m)
 tx_steps_on w k actor seen vhost file t told v m = where_then (Makes k) (tx_step (tx_turns.tx_state t v m)) _ (λ made x. tt)
 
-begins : (w : World) (k : EventKind) (actor n seen : ℕ) (c : Command) → AllMake k (tx_turns.begins w actor n seen c)
+begins : (w : World) (k : EventKind) (actor n seen : ℕ) (c : Command) → AllMake k (tx_turns.turn_begins w actor n seen c)
 begins w k actor n seen c = where_then (Makes k) (rx_turns.turn_on c) _ (λ t e1. where_then (Makes k) (at w.vhosts t.0) _ (λ v e2. where_then (Makes k) (at w.guests v.guest) _
     (λ g e3. either (AllMake k) (t.1 == 0) (rx_turns.rx_begins w actor seen t.0 v g.memory) (tx_turns.tx_begins w actor n seen t.0 v g.memory)
     (where_then (Makes k) v.settings.rx.file _ (λ file e4. where_if (Makes k) (is_free 0 v && is_none v.settings.rx.queue.stopped)
@@ -323,7 +323,7 @@ hands s w actor seen (Receives file t) c = turning (Makes event.Hand) w c _ (λ 
     (λ frame e3. where_then (Makes event.Hand) (rx_step (hand.Got frame) (rx_turns.rx_state t v m)) _ (λ made e. refl)))))
 hands s w actor seen d c = tt
 
-finds_nothing : (w : World) (k : EventKind) (actor seen : ℕ) (d : Doing) (c : Command) → AllMake k (tx_turns.finds_nothing w actor seen d c)
+finds_nothing : (w : World) (k : EventKind) (actor seen : ℕ) (d : Doing) (c : Command) → AllMake k (tx_turns.turn_finds_none w actor seen d c)
 finds_nothing w k actor seen (Receives file t) c = turning (Makes k) w c _ (λ vhost v m. where_then (Makes k) (at w.files file) _
     (λ f e1. where_then (Makes k) (rx_step (hand.NotReady (front_place f)) (rx_turns.rx_state t v m)) _
     (λ made e. where_only (Makes k) _ (rx_turns.rx_event w actor seen vhost file v NoFile (found.NotReady (front_place f)) made) (λ x. tt))))
@@ -354,7 +354,7 @@ row_makes s w event.Hand actor a n c = hands s w actor a.seen a.doing c
 row_makes s w event.PutBack actor a n c = turns w event.PutBack actor n a.seen a.doing c
 row_makes s w event.Out actor a n c = or_else (Makes event.Out) (ring.leaves s w a.seen a.doing) (tx_turns.turns w actor n a.seen a.doing c)
     (leaves s w event.Out a.seen a.doing) (turns w event.Out actor n a.seen a.doing c)
-row_makes s w event.NotReady actor a n c = or_else (Makes event.NotReady) (ring.finds_none w a.seen a.doing) (tx_turns.finds_nothing w actor a.seen a.doing c)
+row_makes s w event.NotReady actor a n c = or_else (Makes event.NotReady) (ring.finds_none w a.seen a.doing) (tx_turns.turn_finds_none w actor a.seen a.doing c)
     (finds_none w event.NotReady a.seen a.doing) (finds_nothing w event.NotReady actor a.seen a.doing c)
 row_makes s w event.Owner actor a n c = owning (Makes event.Owner) w actor a.seen a.doing c (owns w a.seen a.doing c)
     (meets_worker w event.Owner a.seen a.doing) (finds_off w event.Owner a.seen a.doing c)

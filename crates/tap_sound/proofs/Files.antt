@@ -6,9 +6,11 @@ use Rattle.std.specs.Option.{option_map_or}
 use Rattle.std.proofs.lemmas.Bool.Decides.{eqb_tells, leb_tells}
 use Rattle.tap_frame.specs.declared.name.Name.{Name}
 use Rattle.tap_ledger.specs.declared.fate.Fate.{Fate}
-use Rattle.tap_world.specs.Then.{only_if}
-use Rattle.tap_world.specs.Line.{Entry, File, Standing, claimed, count, first_that, freed, has_batch, has_claim, in_batch, in_ring, is_empty, is_full, is_gone, is_kept, is_over, is_spent, last_that}
-use Rattle.tap_world.specs.Line.Standing.{Batched, Claimed, Cut, Out, Ready}
+use Rattle.tap_ground.specs.Options.{only_if}
+use Rattle.tap_world.specs.declared.line.Entry.{Entry}
+use Rattle.tap_world.specs.declared.line.Standing.{Standing}
+use Rattle.tap_world.specs.Line.{File, claimed, count, first_that, freed, has_batch, has_claim, in_batch, in_ring, is_empty, is_full, is_gone, is_kept, is_over, is_spent, last_that}
+use Rattle.tap_world.specs.declared.line.Standing.TheVariants.{Batched, Claimed, Cut, Out, Ready}
 use Rattle.tap_world.specs.LineSteps.{Change, changed, filled, is_claim_of, may_leave, moves_to, ready_front, restand}
 use Rattle.tap_world.specs.LineSteps.Change.{Claims, Cuts, Leaves, Moves, Owned, Puts, PutsBack, Reopens, Shuts, Sizes, Takes}
 use Rattle.tap_world.specs.Sound.{HasEpochs, HasRoom, InThreeParts, NeverFall, has_left}

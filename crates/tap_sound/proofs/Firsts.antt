@@ -2,7 +2,6 @@
 use Rattle.std.proofs.Common.{◌≡◌, ℕ, List, [], ◌∷◌, Bool, true, false, inl, inr, refl}
 use Rattle.std.specs.Prelude.{if◌then◌else◌, is_some}
 use Rattle.std.specs.Option.{option_map_or}
-use Rattle.tap_frame.specs.Frame.{FrameValue}
 use Rattle.tap_steer.specs.Select.{learns}
 use Rattle.vring_turns.specs.RxTurn.{rx_begun}
 use Rattle.vhost_dev.specs.Settings.{hdr_of}
@@ -17,7 +16,7 @@ use Rattle.tap_world.specs.Grammar.{HasForm, Perhaps}
 use Rattle.tap_world.specs.Grammar.Grammar.{One, ◌⨾◌}
 use Rattle.tap_world.specs.Commands.{form_of}
 use Rattle.tap_world.specs.Setup.{Numbered, Setup}
-use Rattle.tap_world.specs.World.{Doing, World, name_of, table}
+use Rattle.tap_world.specs.World.{Doing, World, name_of, table, HostFrame}
 use Rattle.tap_world.specs.World.Doing.{Begun, Given, Teaches, Transmits}
 use Rattle.tap_world.specs.Effect.{Effect}
 use Rattle.tap_world.specs.Scripts.{is_kind, next_kind, turn_first}
@@ -34,7 +33,7 @@ use Rattle.tap_sound.proofs.Follows.{AllFollow, Follows, as_doing, at_kind, firs
 calling : (w : World) (actor seen : ℕ) (c : Command) → HasForm (form_of c) (event.Drive ∷ []) → AllFollow Begun c event.Drive (control.calls w actor seen c)
 calling w actor seen c h =
     let P : Effect → Type 0 = Follows Begun c event.Drive in
-    where_then P (control.vhost_of c) _ (λ vhost e1. where_then P (at w.vhosts vhost) _ (λ v e2. where_then P (at w.guests v.guest) _
+    where_then P (control.driven_vhost c) _ (λ vhost e1. where_then P (at w.vhosts vhost) _ (λ v e2. where_then P (at w.guests v.guest) _
     (λ g e3. where_then P (control.call_of c v g.memory) _ (λ x e4. where_only P _ (control.call_effect w seen vhost v.guest x) (λ b. h)))))
 
 finding_off : (w : World) (seen : ℕ) (c : Command) → HasForm (form_of c) (event.Owner ∷ []) → AllFollow Begun c event.Owner (rx_turns.finds_off w seen Begun c)
@@ -43,13 +42,13 @@ finding_off w seen c h =
     where_then P (rx_turns.turn_on c) _ (λ t e1. where_then P (at w.vhosts t.0) _ (λ v e2. where_then P (at w.guests v.guest) _
     (λ g e3. where_then P (rx_turns.is_off t.0 t.1 v) _ (λ told e4. where_only P _ (rx_turns.off_told w seen v g.memory told) (λ b. h)))))
 
-rx_first : (w : World) (actor n seen vhost : ℕ) → AllFollow Begun (command.RxTurn vhost) event.Notices (tx_turns.begins w actor n seen (command.RxTurn vhost))
+rx_first : (w : World) (actor n seen vhost : ℕ) → AllFollow Begun (command.RxTurn vhost) event.Notices (tx_turns.turn_begins w actor n seen (command.RxTurn vhost))
 rx_first w actor n seen vhost =
     let P : Effect → Type 0 = Follows Begun (command.RxTurn vhost) event.Notices in
     where_then P (at w.vhosts vhost) _ (λ v e2. where_then P (at w.guests v.guest) _
     (λ g e3. where_then P v.settings.rx.file _ (λ file e4. where_if P _ (rx_turns.rx_steps_on w actor seen vhost file (rx_begun v.settings.mrg (hdr_of v.settings)) v g.memory) (λ b es h. inr (refl, h)))))
 
-tx_first : (w : World) (actor n seen vhost : ℕ) → AllFollow Begun (command.TxTurn vhost) event.Notices (tx_turns.begins w actor n seen (command.TxTurn vhost))
+tx_first : (w : World) (actor n seen vhost : ℕ) → AllFollow Begun (command.TxTurn vhost) event.Notices (tx_turns.turn_begins w actor n seen (command.TxTurn vhost))
 tx_first w actor n seen vhost =
     let P : Effect → Type 0 = Follows Begun (command.TxTurn vhost) event.Notices in
     where_then P (at w.vhosts vhost) _ (λ v e2. where_then P (at w.guests v.guest) _
@@ -135,7 +134,7 @@ begun_follows s w actor seen script n (command.Backend vhost r file) k e =
     (first_look s w actor seen script n Begun (command.Backend vhost r file) tt refl)
 
 -- Look, of a transmit turn that gave its frame to the host
-pub given_follows : (s : Setup) (w : World) (actor seen : ℕ) (script : List Numbered) (n file : ℕ) (t : TxTurn) (told : List ChainText) (f : FrameValue) (c : Command)
+pub given_follows : (s : Setup) (w : World) (actor seen : ℕ) (script : List Numbered) (n file : ℕ) (t : TxTurn) (told : List ChainText) (f : HostFrame) (c : Command)
     → AllFollow (Given file t told f) c event.Look (rows.look_row s w actor (as_doing seen script (Given file t told f)) n c)
 given_follows s w actor seen script n own_file t told f (command.TxTurn vhost) = go (learns (table s w) own_file)
   where

@@ -6,7 +6,7 @@ use Rattle.std.specs.Prelude.{if◌then◌else◌, is_none, nat_lt, slice_index_
 use Rattle.std.specs.Option.{option_map_or}
 use Rattle.tap_frame.specs.declared.name.Name.{Name}
 use Rattle.tap_frame.specs.declared.reading.BadFrame.{BadFrame}
-use Rattle.tap_steer.specs.declared.error.TapErr.{TapErr}
+use Rattle.tap_ledger.specs.declared.error.TapErr.{TapErr}
 use Rattle.tap_steer.specs.declared.operation.Op.{Op}
 use Rattle.tap_steer.specs.declared.operation.Op.TheVariants as op
 use Rattle.tap_steer.specs.declared.operation.TheConstants.{IFF_ATTACH_QUEUE}
@@ -17,7 +17,7 @@ use Rattle.tap_steer.specs.Select as steer
 use Rattle.tap_steer.specs.Table.{Table, file_at, is_set}
 use Rattle.scen_words.specs.declared.command.Command.{Command}
 use Rattle.scen_words.specs.declared.command.Command.TheVariants as command
-use Rattle.tap_trace.specs.declared.causes.TapText.{TapText}
+use Rattle.tap_ledger.specs.declared.error.TapErr.{TapErr as TapText}
 use Rattle.tap_world.specs.declared.event.EventKind.{EventKind}
 use Rattle.tap_world.specs.declared.event.EventKind.TheVariants as event
 use Rattle.tap_world.specs.ByNumber.{at}
@@ -107,7 +107,7 @@ at_file_kind P (Some f) kind k e h = at_kind P k (kind f) e (h f)
 
 refuses : (w : World) (actor : ℕ) (d e : Doing) (c : Command) (x : Option TapErr) → HasForm (left_of d c) (event.Look ∷ [])
     → ((es : List EventKind) → HasForm (left_of e c) es → HasForm (left_of d c) (event.Look ∷ es))
-    → Follows d c event.Look (tables.approved w actor e x)
+    → Follows d c event.Look (tables.decided w actor e x)
 refuses w actor d e c (Some r) stop on = stop
 refuses w actor d e c None stop on = on
 

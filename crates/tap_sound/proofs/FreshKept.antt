@@ -10,7 +10,7 @@ use Rattle.scen_text.specs.declared.scenario.Phase.{Phase}
 use Rattle.scen_text.specs.declared.scenario.Scenario.{Scenario}
 use Rattle.tap_world.specs.declared.event.Event.{Event}
 use Rattle.tap_world.specs.declared.event.Heard.{Heard}
-use Rattle.tap_world.specs.Then.{◌>>=◌, only_if}
+use Rattle.tap_ground.specs.Options.{◌>>=◌, only_if}
 use Rattle.tap_world.specs.ByNumber.{with_nth}
 use Rattle.tap_world.specs.Setup.{Numbered, Setup, script_in, setup_of}
 use Rattle.tap_world.specs.World.{Actor, Doing, World, newest}

@@ -17,7 +17,7 @@ use Rattle.vring_turns.specs.TransmitBytes.{bytes_of_chain, refusal_of}
 use Rattle.vring_turns.specs.Turn.{is_enough, publishes_at}
 use Rattle.vring_turns.specs.TxTurn as turn
 use Rattle.vring_turns.specs.TxTurn.{TxState, TxTurn}
-use Rattle.tap_world.specs.SoundNames.{is_giving}
+use Rattle.vring_turns.specs.Stage.{is_giving}
 use Rattle.tap_sound.proofs.Kit.{WhereSome, where_if}
 
 -- as many were accepted as before, and none is to be given next; or one more, under the next name, which is

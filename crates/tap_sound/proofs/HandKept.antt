@@ -29,7 +29,8 @@ use Rattle.tap_world.specs.Scripts.{is_kind, next_kind}
 use Rattle.tap_world.specs.Step.{row, step}
 use Rattle.tap_world.specs.SoundActors.{CanBe, can_be}
 use Rattle.tap_world.specs.SoundRings.{is_about}
-use Rattle.tap_world.specs.Sound.{EachActor, EachFile, HandIsOwners, InThreeParts, front_name, has_in_hand, holds_name, is_receiving, is_serving}
+use Rattle.vring_turns.specs.Stage.{has_in_hand}
+use Rattle.tap_world.specs.Sound.{EachActor, EachFile, HandIsOwners, InThreeParts, front_name, holds_name, is_receiving, is_serving}
 use Rattle.tap_world.specs.Runs.{begins, has_ended, opening, run, run_phases}
 use Rattle.tap_sound.specs.Reached.{IsReached}
 use Rattle.tap_sound.proofs.Kit.{some_same, then_some, where_some}

@@ -21,10 +21,11 @@ use Rattle.tap_world.specs.declared.event.EventKind.TheVariants as event
 use Rattle.tap_world.specs.declared.event.Found.{Found}
 use Rattle.tap_world.specs.declared.event.Found.TheVariants as found
 use Rattle.tap_world.specs.ByNumber.{at}
-use Rattle.tap_world.specs.Then.{◌>>=◌}
+use Rattle.tap_ground.specs.Options.{◌>>=◌}
 use Rattle.tap_world.specs.Frames.{FrameText}
 use Rattle.tap_world.specs.Setup.{Numbered, Setup, frame_of}
-use Rattle.tap_world.specs.Line.{Entry, File, first_that, in_batch}
+use Rattle.tap_world.specs.declared.line.Entry.{Entry}
+use Rattle.tap_world.specs.Line.{File, first_that, in_batch}
 use Rattle.tap_world.specs.LineSteps.{changed}
 use Rattle.tap_world.specs.LineSteps.Change.{Leaves, PutsBack, Takes}
 use Rattle.tap_world.specs.World.{Doing, World}
@@ -37,7 +38,8 @@ use Rattle.tap_world.specs.Step.{row}
 use Rattle.tap_world.specs.StepTurns as rx_turns
 use Rattle.tap_world.specs.StepTransmits as tx_turns
 use Rattle.tap_world.specs.SoundActors.{can_be}
-use Rattle.tap_world.specs.Sound.{front_name, has_in_hand}
+use Rattle.vring_turns.specs.Stage.{has_in_hand}
+use Rattle.tap_world.specs.Sound.{front_name}
 use Rattle.tap_sound.proofs.Kit.{WhereSome, some_same, some_then, then_some, where_some, where_then}
 use Rattle.tap_sound.proofs.Steps.{turning}
 use Rattle.tap_sound.proofs.Follows.{at_kind}

@@ -13,12 +13,13 @@ use Rattle.tap_world.specs.declared.event.EventKind.{EventKind}
 use Rattle.tap_world.specs.declared.event.EventKind.TheVariants as event
 use Rattle.tap_world.specs.Setup.{opening_table}
 use Rattle.tap_world.specs.World.Doing.{Begun}
-use Rattle.tap_world.specs.World.{Actor, Published, World, newest, table}
+use Rattle.tap_world.specs.declared.told.Published.{Published}
+use Rattle.tap_world.specs.World.{Actor, World, newest, table}
 use Rattle.tap_world.specs.Effect.{Effect, OnFiles, Onward, actor_after, files_after, guests_after, with_effect}
 use Rattle.tap_world.specs.Effect.Onward.{Ends, Goes, Stays}
 use Rattle.tap_world.specs.Effect.OnFiles.{NoFile, OnFile}
 use Rattle.tap_world.specs.Step.{step}
-use Rattle.tap_world.specs.Sound.{EachActor, EachFile, HasEpochs, HasRoom, HasSeen, InThreeParts, capacity_before}
+use Rattle.tap_world.specs.Sound.{EachActor, EachFile, HasEpochs, HasRoom, HasSeen, InThreeParts, table_capacity}
 use Rattle.tap_sound.specs.Kept.{IsOrdered, leaves_sizes}
 use Rattle.tap_sound.proofs.Kit.{some_same, then_some, where_some}
 use Rattle.tap_sound.proofs.Scripts.{effect_actors}
@@ -147,13 +148,13 @@ same_table s w x u t none =
     ap (λ (ops : List Published). after_all (opening_table s) (map (λ (p : Published). p.op) ops)) after
 
 pub room_is_kept : (s : Setup) (w : World) (x : Event) (u : World × Heard) → step s w x ≡ Some u → leaves_sizes x.kind ≡ true
-    → EachActor w (HasSeen w) → EachFile w (λ file f. HasRoom (capacity_before file (table s w)) f)
-    → EachFile u.0 (λ file f. HasRoom (capacity_before file (table s u.0)) f)
+    → EachActor w (HasSeen w) → EachFile w (λ file f. HasRoom (table_capacity file (table s w)) f)
+    → EachFile u.0 (λ file f. HasRoom (table_capacity file (table s u.0)) f)
 room_is_kept s w x u e quiet seen each =
     let t = step_is s w x u e in
     let h = tame s w x u.0 t seen in
     let q = sizes_left x.kind quiet in
     rw (same_table s w x u.0 t (h.0 q.0))
-    (step_keeps (λ file f. HasRoom (capacity_before file (table s w)) f) s w x u.0 t
-    (λ file c f g o is room. course_room (capacity_before file (table s w)) f g (course c f g is)
+    (step_keeps (λ file f. HasRoom (table_capacity file (table s w)) f) s w x u.0 t
+    (λ file c f g o is room. course_room (table_capacity file (table s w)) f g (course c f g is)
     (fair file c f g is (subst HasGoodFate o h.1) (subst KeepsSize o (h.2 q.1))) room) each)

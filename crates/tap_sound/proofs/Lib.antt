@@ -1,4 +1,5 @@
 mod Kit
+mod TurnEvents
 mod Forms
 mod Left
 mod Rows

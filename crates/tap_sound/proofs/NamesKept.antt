@@ -8,7 +8,8 @@ use Rattle.scen_text.specs.declared.scenario.Scenario.{Scenario}
 use Rattle.tap_world.specs.declared.event.Event.{Event}
 use Rattle.tap_world.specs.declared.event.Heard.{Heard}
 use Rattle.tap_world.specs.Setup.{Declared, Numbered, Setup, script_in, setup_of}
-use Rattle.tap_world.specs.World.{Actor, Doing, Said, World, current, newest}
+use Rattle.tap_world.specs.declared.told.Said.{Said}
+use Rattle.tap_world.specs.World.{Actor, Doing, World, current, newest}
 use Rattle.tap_world.specs.World.Doing.{Begun}
 use Rattle.tap_world.specs.Effect.{Effect, Ending, Onward, actor_after, ended, files_after, guests_after, said_after, with_effect}
 use Rattle.tap_world.specs.Effect.Onward.{Ends, Goes, Stays}

@@ -11,7 +11,7 @@ use Rattle.tap_frame.specs.Frame.{FrameValue}
 use Rattle.tap_ledger.specs.declared.act.Act.{Act}
 use Rattle.tap_ledger.specs.declared.fate.Cause.{Cause}
 use Rattle.tap_ledger.specs.declared.hand.Hand.TheVariants as hand
-use Rattle.tap_steer.specs.declared.error.TapErr.{TapErr}
+use Rattle.tap_ledger.specs.declared.error.TapErr.{TapErr}
 use Rattle.tap_steer.specs.declared.operation.Op.{Op}
 use Rattle.tap_steer.specs.declared.operation.Op.TheVariants as op
 use Rattle.tap_steer.specs.declared.operation.TheConstants.{IFF_ATTACH_QUEUE}
@@ -40,7 +40,7 @@ use Rattle.scen_words.specs.declared.command.Command.TheVariants as command
 use Rattle.tap_trace.specs.declared.answer.Answer.{Answer}
 use Rattle.tap_trace.specs.declared.answer.Answer.TheVariants as answer
 use Rattle.tap_trace.specs.declared.causes.DriveText.TheVariants as drive_text
-use Rattle.tap_trace.specs.declared.causes.TapText.{TapText}
+use Rattle.tap_ledger.specs.declared.error.TapErr.{TapErr as TapText}
 use Rattle.tap_trace.specs.declared.kind.Kind.{Kind}
 use Rattle.tap_trace.specs.declared.kind.Kind.TheVariants as kind
 use Rattle.tap_trace.specs.declared.turn.ChainText.{ChainText}
@@ -61,7 +61,8 @@ use Rattle.tap_world.specs.Effect.{Effect, Onward, only}
 use Rattle.tap_world.specs.Effect.OnFiles.{NoFile}
 use Rattle.tap_world.specs.Effect.Onward.{Ends, Goes, Stays}
 use Rattle.tap_world.specs.Stands.{names_of}
-use Rattle.tap_world.specs.SoundNames.{accepted_by, accepted_in, awaited, got_in, is_giving}
+use Rattle.vring_turns.specs.Stage.{is_giving}
+use Rattle.tap_world.specs.SoundNames.{accepted_by, accepted_in, awaited, got_in}
 use Rattle.tap_world.specs.Scripts.{is_kind, next_kind, tx_next_kind}
 use Rattle.tap_world.specs.Step as rows
 use Rattle.tap_world.specs.StepBackend as back
@@ -139,7 +140,7 @@ module _ (P : Name → Type 0) (me n : ℕ) where
   course_stood t (op.Resize file capacity) = tt
   course_stood t x = tt
 
-  approved : (w : World) (d e : Doing) (actor : ℕ) (x : Option TapErr) → Stood e → Tells d (tables.approved w actor e x)
+  approved : (w : World) (d e : Doing) (actor : ℕ) (x : Option TapErr) → Stood e → Tells d (tables.decided w actor e x)
   approved w d e actor None q = λ h k. q
   approved w d e actor (Some x) q = λ h k. tt
 
@@ -182,7 +183,7 @@ module _ (P : Name → Type 0) (me n : ℕ) where
     where
       go : (o : Option Op) → AllTell d (option_map_or (tables.looks_to_change (table s w) w me) o (tables.looks_at (table s w) w (name_of me n) c))
       go None = looks_at w d (table s w) c
-      go (Some x) = where_only (Tells d) (is_none w.writer) (tables.approved w me (tables.course (table s w) x) (refuse (table s w) x))
+      go (Some x) = where_only (Tells d) (is_none w.writer) (tables.decided w me (tables.course (table s w) x) (refuse (table s w) x))
           (λ e. approved w d (tables.course (table s w) x) me (refuse (table s w) x) (course_stood (table s w) x))
 
   -- what was told of chains, where none is awaited, is told where one is
@@ -360,7 +361,7 @@ module _ (P : Name → Type 0) (me n : ℕ) where
 
   calls : (w : World) (d : Doing) (actor seen : ℕ) (c : Command) → AllTell d (control.calls w actor seen c)
   calls w d actor seen c =
-      where_then (Tells d) (control.vhost_of c) _ (λ vhost e1. where_then (Tells d) (at w.vhosts vhost) _ (λ v e2. where_then (Tells d) (at w.guests v.guest) _
+      where_then (Tells d) (control.driven_vhost c) _ (λ vhost e1. where_then (Tells d) (at w.vhosts vhost) _ (λ v e2. where_then (Tells d) (at w.guests v.guest) _
       (λ g e3. where_then (Tells d) (control.call_of c v g.memory) _ (λ x e4. where_only (Tells d) _ (control.call_effect w seen vhost v.guest x)
       (λ y. λ h k. where_some IsSilent (control.call_of c v g.memory) x (call_of c v g.memory) e4)))))
 
@@ -440,7 +441,7 @@ module _ (P : Name → Type 0) (me n : ℕ) where
       (λ made e. λ h k. tx_after seen file t chains _ made
       (where_some (Adds chains) (tx_step (tx_turns.tx_state t v m)) made (step_adds chains t.stage (tx_turns.tx_state t v m) quiet) e) (before h) made.0.turn.stage refl)
 
-  begins : (w : World) (seen : ℕ) (c : Command) → AllTell Begun (tx_turns.begins w me n seen c)
+  begins : (w : World) (seen : ℕ) (c : Command) → AllTell Begun (tx_turns.turn_begins w me n seen c)
   begins w seen c = where_then (Tells Begun) (rx_turns.turn_on c) _ (λ t e1. where_then (Tells Begun) (at w.vhosts t.0) _ (λ v e2. where_then (Tells Begun) (at w.guests v.guest) _
       (λ g e3. either (AllTell Begun) (t.1 == 0) (rx_turns.rx_begins w me seen t.0 v g.memory) (tx_turns.tx_begins w me n seen t.0 v g.memory)
       (where_then (Tells Begun) v.settings.rx.file _ (λ file e4. where_if (Tells Begun) (is_free 0 v && is_none v.settings.rx.queue.stopped)
@@ -471,7 +472,7 @@ module _ (P : Name → Type 0) (me n : ℕ) where
       (λ made e. λ h k. rx_after seen file made.0.turn (found.Moved frame.name) (rx_turns.rx_over made.0.turn.stage))))))
   hands s w actor seen d c = tt
 
-  finds_nothing : (w : World) (actor seen : ℕ) (d : Doing) (c : Command) → AllTell d (tx_turns.finds_nothing w actor seen d c)
+  finds_nothing : (w : World) (actor seen : ℕ) (d : Doing) (c : Command) → AllTell d (tx_turns.turn_finds_none w actor seen d c)
   finds_nothing w actor seen (Receives file t) c = let d : Doing = Receives file t in
       turning (Tells d) w c _ (λ vhost v m. where_then (Tells d) (at w.files file) _
       (λ f e1. where_then (Tells d) (rx_step (hand.NotReady (front_place f)) (rx_turns.rx_state t v m)) _
@@ -512,7 +513,7 @@ module _ (P : Name → Type 0) (me n : ℕ) where
   row_tells s w event.PutBack a c e = turns w a.seen a.doing c (not_giving event.PutBack refl w a.doing c e)
   row_tells s w event.Out a c e = or_else (Tells a.doing) (ring.leaves s w a.seen a.doing) (tx_turns.turns w me n a.seen a.doing c)
       (leaves s w a.seen a.doing) (turns w a.seen a.doing c (not_giving event.Out refl w a.doing c e))
-  row_tells s w event.NotReady a c e = or_else (Tells a.doing) (ring.finds_none w a.seen a.doing) (tx_turns.finds_nothing w me a.seen a.doing c)
+  row_tells s w event.NotReady a c e = or_else (Tells a.doing) (ring.finds_none w a.seen a.doing) (tx_turns.turn_finds_none w me a.seen a.doing c)
       (finds_none w a.seen a.doing) (finds_nothing w me a.seen a.doing c)
   row_tells s w event.Owner a c e = owning (Tells a.doing) w me a.seen a.doing c (owns w a.seen a.doing c) (meets_worker w a.seen a.doing) (finds_off w a.seen a.doing c)
   row_tells s w event.HostIn a c e = or_else (Tells a.doing) (ring.hosts w me n a.seen a.doing) (tx_turns.hosts_of_turn w a.seen a.doing c)

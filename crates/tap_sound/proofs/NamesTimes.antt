@@ -6,10 +6,12 @@ use Rattle.std.specs.List.{AllByRecursion}
 use Rattle.std.proofs.lemmas.Bool.Decides.{eqb_tells}
 use Rattle.std.proofs.Common.{eq-eqb}
 use Rattle.tap_frame.specs.declared.name.Name.{Name}
-use Rattle.tap_world.specs.Then.{only_if}
+use Rattle.tap_ground.specs.Options.{only_if}
 use Rattle.tap_world.specs.ByNumber.{at, with_at}
-use Rattle.tap_world.specs.Line.{Entry, File, Standing, first_that, has_batch, in_batch, in_ring, last_that}
-use Rattle.tap_world.specs.Line.Standing.{Batched, Claimed, Cut, Out, Ready}
+use Rattle.tap_world.specs.declared.line.Entry.{Entry}
+use Rattle.tap_world.specs.declared.line.Standing.{Standing}
+use Rattle.tap_world.specs.Line.{File, first_that, has_batch, in_batch, in_ring, last_that}
+use Rattle.tap_world.specs.declared.line.Standing.TheVariants.{Batched, Claimed, Cut, Out, Ready}
 use Rattle.tap_world.specs.LineSteps.{Change, changed, filled, may_leave, moves_to, ready_front, restand}
 use Rattle.tap_world.specs.LineSteps.Change.{Claims, Cuts, Leaves, Moves, Owned, Puts, PutsBack, Reopens, Shuts, Sizes, Takes}
 use Rattle.tap_world.specs.World.{Actor, World}

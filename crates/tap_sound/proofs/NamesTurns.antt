@@ -20,7 +20,8 @@ use Rattle.vring_turns.specs.TxTurn.{TxState}
 use Rattle.tap_trace.specs.declared.turn.ChainText.{ChainText}
 use Rattle.tap_trace.specs.declared.turn.ChainText.TheVariants as chain
 use Rattle.tap_world.specs.StepTransmits.{chains_after}
-use Rattle.tap_world.specs.SoundNames.{got_in, is_giving}
+use Rattle.vring_turns.specs.Stage.{is_giving}
+use Rattle.tap_world.specs.SoundNames.{got_in}
 use Rattle.tap_sound.proofs.Kit.{WhereSome}
 
 pub got_more : (xs ys : List ChainText) → got_in (xs ++ ys) ≡ got_in xs ++ got_in ys

@@ -7,7 +7,8 @@ use Rattle.tap_world.specs.declared.event.Event.{Event}
 use Rattle.tap_world.specs.declared.event.Heard.{Heard}
 use Rattle.tap_world.specs.ByNumber.{at}
 use Rattle.tap_world.specs.Setup.{Declared, Setup, script_in, setup_of}
-use Rattle.tap_world.specs.Line.{Entry, File, is_empty}
+use Rattle.tap_world.specs.declared.line.Entry.{Entry}
+use Rattle.tap_world.specs.Line.{File, is_empty}
 use Rattle.tap_world.specs.World.{Actor, Doing, World, newest}
 use Rattle.tap_world.specs.World.Doing.{Begun, Placed, Purges}
 use Rattle.tap_world.specs.Step.{step}

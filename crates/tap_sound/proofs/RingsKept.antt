@@ -193,7 +193,7 @@ left laws s w x u t turns served (Sizing file capacity f is at_ eq) nt = plain s
 left laws s w x u t turns served (Publishing y n ans last of no_ eq) nt =
     plain s w x u t _ eq (Free (last_serves t.actor.doing last) refl) (no_rings s w x u t (on_vhosts s w x u t _ eq)) refl
 left laws s w x u t turns served (Withdrawing y file is of no_ eq) nt = plain s w x u t _ eq (Free (ap serves is) refl) (no_rings s w x u t (on_vhosts s w x u t _ eq)) refl
-left laws s w x u t turns served (Learning file hash o f g v wr alike) nt = record {
+left laws s w x u t turns served (Learning file hash o f g v wr free alike) nt = record {
   course = alike_course w t.actor.doing t.effect.onward t.now.command alike;
   rings = no_rings s w x u t v;
   guests = same_guests s w x u t g;

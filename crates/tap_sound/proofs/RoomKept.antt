@@ -15,20 +15,22 @@ use Rattle.tap_world.specs.declared.event.Heard.{Heard}
 use Rattle.tap_world.specs.ByNumber.{at}
 use Rattle.scen_words.specs.declared.command.Command.{Command}
 use Rattle.tap_world.specs.Setup.{Setup, opening_table}
-use Rattle.tap_world.specs.Line.{Entry, File, claimed, freed, is_over}
+use Rattle.tap_world.specs.declared.line.Entry.{Entry}
+use Rattle.tap_world.specs.Line.{File, claimed, freed, is_over}
 use Rattle.tap_world.specs.LineSteps.{Change, changed}
 use Rattle.tap_world.specs.LineSteps.Change.{Sizes}
-use Rattle.tap_world.specs.World.{Actor, Doing, Published, World, holds_writer, table}
+use Rattle.tap_world.specs.declared.told.Published.{Published}
+use Rattle.tap_world.specs.World.{Actor, Doing, World, holds_writer, table}
 use Rattle.tap_world.specs.World.Doing.{Begun, Resizes, Shrinks}
 use Rattle.tap_world.specs.Effect.{OnFiles, files_after}
 use Rattle.tap_world.specs.Effect.OnFiles.{NoFile, OnFile}
 use Rattle.tap_world.specs.Scripts.{is_kind, next_kind, shrink_next}
 use Rattle.tap_world.specs.Step.{row, step}
 use Rattle.tap_world.specs.SoundActors.{CanBe, can_be}
-use Rattle.tap_world.specs.Sound.{EachActor, EachFile, HasRoom, HasSeen, capacity_before, has_left}
+use Rattle.tap_world.specs.Sound.{EachActor, EachFile, HasRoom, HasSeen, table_capacity, has_left}
 use Rattle.tap_world.specs.SoundTable.{Agreed, AgreesWithTable, commanded, expected, of_table, writing}
 use Rattle.tap_sound.specs.Kept.{IsOrdered, leaves_sizes}
-use Rattle.tap_world.specs.Then.{◌>>=◌}
+use Rattle.tap_ground.specs.Options.{◌>>=◌}
 use Rattle.tap_sound.proofs.Kit.{only_some, some_same, where_some}
 use Rattle.tap_sound.proofs.Kept.{effect_files, effect_ops, room_is_kept, same_table, step_keeps}
 use Rattle.tap_sound.proofs.Stand.{stands_at}
@@ -41,7 +43,7 @@ record HadRoom (s : Setup) (w : World) : Type 0 where
   seen : EachActor w (HasSeen w)
   stand : EachActor w (λ actor a. CanBe a)
   agrees : EachFile w (AgreesWithTable s w)
-  room : EachFile w (λ file f. HasRoom (capacity_before file (table s w)) f)
+  room : EachFile w (λ file f. HasRoom (table_capacity file (table s w)) f)
 
 -- ---- a publication
 
@@ -96,14 +98,14 @@ other_before before after_ f le h = record {
 }
 
 publish_room : (s : Setup) (w : World) (x : Event) (u : World) (t : IsStep s w x u) (y : Op) → x.kind ≡ event.Publish → HadRoom s w → SizesBy t.actor.doing y
-    → (file : ℕ) (f : File) → at w.files file ≡ Some f → HasRoom (capacity_before file (after (table s w) y)) f
+    → (file : ℕ) (f : File) → at w.files file ≡ Some f → HasRoom (table_capacity file (after (table s w) y)) f
 publish_room s w x u t (op.Resize file0 capacity) kind sound (places, cuts, doing) file f here = ⊎_elim
     (λ same.
     let next : is_kind event.Publish (next_kind w (Shrinks file0 places cuts) t.now.command) ≡ true =
     subst (λ (k : EventKind). is_kind k (next_kind w (Shrinks file0 places cuts) t.now.command) ≡ true) kind
     (subst (λ (d : Doing). is_kind x.kind (next_kind w d t.now.command) ≡ true) doing t.next) in
     let here0 : at w.files file0 ≡ Some f = ap (at w.files) same.1 ∙ here in
-    other_before (capacity_before file (table s w)) (capacity_before file (after (table s w) (op.Resize file0 capacity))) f
+    other_before (table_capacity file (table s w)) (table_capacity file (after (table s w) (op.Resize file0 capacity))) f
     (not_over f (shrunk w file0 places cuts t.now.command f here0 next)) (sound.room file f here))
     (λ apart. subst (λ (n : ℕ). HasRoom n f) (sym (resize_elsewhere (table s w) file0 capacity file apart.1)) (sound.room file f here))
     (eqb_tells file0 file)
@@ -111,14 +113,14 @@ publish_room s w x u t y kind sound sizes file f here =
     subst (λ (n : ℕ). HasRoom n f) (sym (same_after (table s w) y tt file)) (sound.room file f here)
 
 when_published : (s : Setup) (w : World) (x : Event) (u : World) (t : IsStep s w x u) → x.kind ≡ event.Publish → HadRoom s w
-    → EachFile u (λ file f. HasRoom (capacity_before file (table s u)) f)
+    → EachFile u (λ file f. HasRoom (table_capacity file (table s u)) f)
 when_published s w x u t kind sound file f here =
     let can : can_be t.actor.doing t.now.command ≡ true = stands_at t.actor t.now t.current_is (sound.stand x.actor t.actor t.found) in
     let p : Publishes t.actor.doing t.effect =
     where_some (Publishes t.actor.doing) _ t.effect (publish_is s w x.actor t.actor.doing t.now.command can)
     (subst (λ (k : EventKind). row s w k x.actor t.actor t.now.number t.now.command ≡ Some t.effect) kind t.is_row) in
     let after_ = published s w x u t p.0 p.1 p.2 in
-    subst (λ (q : Table). HasRoom (capacity_before file q) f) (sym after_.1)
+    subst (λ (q : Table). HasRoom (table_capacity file q) f) (sym after_.1)
     (publish_room s w x u t p.0 kind sound p.3 file f (ap (λ (fs : List (Option File)). at fs file) (sym after_.0) ∙ here))
 
 -- ---- a resize: the capacity that the table has is the file's until it is published
@@ -164,20 +166,20 @@ writing_is w actor a holds found =
     ∙ ap (λ (o : Option Actor). option_map_or (λ (b : Actor). b.doing) o Begun) found
 
 when_resized : (s : Setup) (w : World) (x : Event) (u : World) (t : IsStep s w x u) → x.kind ≡ event.Resize → HadRoom s w
-    → EachFile u (λ file f. HasRoom (capacity_before file (table s u)) f)
+    → EachFile u (λ file f. HasRoom (table_capacity file (table s u)) f)
 when_resized s w x u t kind sound file f here =
     let r : Resizing w x.actor t.actor.doing t.effect =
     where_some (Resizing w x.actor t.actor.doing) _ t.effect (resize_is w x.actor t.actor.seen t.actor.doing)
     (subst (λ (k : EventKind). row s w k x.actor t.actor t.now.number t.now.command ≡ Some t.effect) kind t.is_row) in
     let doing : writing w ≡ Resizes r.0 r.1 = writing_is w x.actor t.actor r.5 t.found ∙ r.2 in
-    let each : EachFile w (λ n g. RoomFor (capacity_before n (table s w)) g) =
-    λ n g at_. room_for (capacity_before n (table s w)) g
+    let each : EachFile w (λ n g. RoomFor (table_capacity n (table s w)) g) =
+    λ n g at_. room_for (table_capacity n (table s w)) g
     (ap (λ (y : Agreed). y.capacity) (sound.agrees n g at_)
     ∙ ap (λ (d : Doing). (expected d (commanded w) n (of_table (table s w) n)).capacity) doing) (sound.room n g at_) in
-    let after_ : EachFile u (λ n g. RoomFor (capacity_before n (table s w)) g) =
-    step_keeps (λ n g. RoomFor (capacity_before n (table s w)) g) s w x u t
-    (λ n c g h o e q. sized (capacity_before n (table s w)) r.1 g h (subst (λ (k : Change). changed k g ≡ Some h) (same_change n r.0 c (Sizes r.1) (sym o ∙ r.3)) e) q) each in
-    subst (λ (q : Table). HasRoom (capacity_before file q) f) (sym (same_table s w x u t r.4)) (has_room (capacity_before file (table s w)) f (after_ file f here))
+    let after_ : EachFile u (λ n g. RoomFor (table_capacity n (table s w)) g) =
+    step_keeps (λ n g. RoomFor (table_capacity n (table s w)) g) s w x u t
+    (λ n c g h o e q. sized (table_capacity n (table s w)) r.1 g h (subst (λ (k : Change). changed k g ≡ Some h) (same_change n r.0 c (Sizes r.1) (sym o ∙ r.3)) e) q) each in
+    subst (λ (q : Table). HasRoom (table_capacity file q) f) (sym (same_table s w x u t r.4)) (has_room (table_capacity file (table s w)) f (after_ file f here))
   where
     change_of : OnFiles → Change → Change
     change_of (OnFile n c) other = c
@@ -197,7 +199,7 @@ which event.Resize = inr (inr refl)
 which k = inl refl
 
 pub room_is_always_kept : (s : Setup) (w : World) (x : Event) (u : World × Heard) → step s w x ≡ Some u → EachActor w (HasSeen w) → EachActor w (λ actor a. CanBe a)
-    → EachFile w (AgreesWithTable s w) → EachFile w (λ file f. HasRoom (capacity_before file (table s w)) f) → EachFile u.0 (λ file f. HasRoom (capacity_before file (table s u.0)) f)
+    → EachFile w (AgreesWithTable s w) → EachFile w (λ file f. HasRoom (table_capacity file (table s w)) f) → EachFile u.0 (λ file f. HasRoom (table_capacity file (table s u.0)) f)
 room_is_always_kept s w x u e seen stand agrees room =
     let t = step_is s w x u e in
     let sound : HadRoom s w = record { seen = seen; stand = stand; agrees = agrees; room = room } in

@@ -12,7 +12,7 @@ use Rattle.tap_steer.specs.declared.operation.TheConstants.{IFF_ATTACH_QUEUE}
 use Rattle.tap_steer.specs.declared.settings.Settings.{Settings}
 use Rattle.tap_steer.specs.Table.{Table, device_of, file_at, is_set, new_file, with_file}
 use Rattle.tap_steer.specs.After.{after, attach_queue, back, backed, detach_queue, disabled, enabled, learn, learn_at, left, resize, resized, set_at, set_device, set_iff, shut, tick}
-use Rattle.tap_world.specs.Sound.{capacity_before}
+use Rattle.tap_world.specs.Sound.{table_capacity}
 
 -- the file of a number, where another one is set in the place of one
 set_other : (d : File) (files : List File) (n : ℕ) (new : File) (m : ℕ) → n ≢ m → slice_index_or (slice_set files n new) m d ≡ slice_index_or files m d
@@ -23,7 +23,7 @@ set_other d (x ∷ xs) (suc n) new zero ne = refl
 set_other d (x ∷ xs) (suc n) new (suc m) ne = set_other d xs n new m (λ e. ne (ap suc e))
 
 abbrev SameCapacities : Table → Table → Type 0
-SameCapacities t u = (file : ℕ) → capacity_before file u ≡ capacity_before file t
+SameCapacities t u = (file : ℕ) → table_capacity file u ≡ table_capacity file t
 
 set_same : (d : File) (files : List File) (n : ℕ) (new : File) → new.capacity ≡ (slice_index_or files n d).capacity
     → (m : ℕ) → (slice_index_or (slice_set files n new) m d).capacity ≡ (slice_index_or files m d).capacity
@@ -119,6 +119,6 @@ same_after t (op.Filter file program) h = same_set_device t file _
 same_after t (op.Back file side vhost) h = same_back t file side vhost
 same_after t (op.Resize file capacity) h = absurd h
 
-pub resize_elsewhere : (t : Table) (file capacity other : ℕ) → file ≢ other → capacity_before other (resize t file capacity) ≡ capacity_before other t
+pub resize_elsewhere : (t : Table) (file capacity other : ℕ) → file ≢ other → table_capacity other (resize t file capacity) ≡ table_capacity other t
 unfolding resize
 resize_elsewhere t file capacity other ne = ap (λ (f : File). f.capacity) (set_other (new_file 0) t.files file (resized capacity (file_at t file)) other ne)

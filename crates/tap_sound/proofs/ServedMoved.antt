@@ -18,7 +18,7 @@ use Rattle.tap_sound.proofs.Taken.{IsStep, both}
 use Rattle.tap_sound.proofs.Turns.{about, is_below}
 use Rattle.tap_sound.proofs.Views.{acted}
 use Rattle.std.specs.Option.{option_map_or}
-use Rattle.tap_world.specs.Then.{only_if}
+use Rattle.tap_ground.specs.Options.{only_if}
 use Rattle.tap_world.specs.SoundActors.{CanBe, can_be}
 use Rattle.tap_sound.proofs.Claims.{with_at_inv}
 use Rattle.tap_sound.proofs.Stand.{stands_at}

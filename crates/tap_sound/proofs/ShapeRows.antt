@@ -11,7 +11,7 @@ use Rattle.vring_turns.specs.declared.stage.RxStage.{RxStage}
 use Rattle.vring_turns.specs.RxTurn.{RxTurn, rx_step, rx_begun}
 use Rattle.vring_turns.specs.TxTurn.{TxTurn, tx_step, tx_begun}
 use Rattle.scen_words.specs.declared.command.Command.{Command}
-use Rattle.tap_trace.specs.declared.causes.TapText.{TapText}
+use Rattle.tap_ledger.specs.declared.error.TapErr.{TapErr as TapText}
 use Rattle.tap_trace.specs.declared.turn.ChainText.{ChainText}
 use Rattle.tap_world.specs.declared.event.EventKind.{EventKind}
 use Rattle.tap_world.specs.ByNumber.{at}
@@ -30,7 +30,7 @@ use Rattle.tap_world.specs.Effect.Onward.{Ends, Goes}
 use Rattle.tap_sound.proofs.Kit.{WhereSome, either, where_if, where_only, where_then}
 use Rattle.tap_sound.proofs.Steps.{held, or_else}
 use Rattle.tap_frame.specs.declared.reading.BadFrame.{BadFrame}
-use Rattle.tap_steer.specs.declared.error.TapErr.{TapErr}
+use Rattle.tap_ledger.specs.declared.error.TapErr.{TapErr}
 use Rattle.tap_steer.specs.declared.selection.Select.{Select}
 use Rattle.tap_world.specs.Effect.OnFiles.{NoFile}
 use Rattle.tap_world.specs.Scripts.{is_kind, next_kind, hand_next, kind_number, purge_next, read_next, rx_next_kind, send_next, shrink_next, tx_next_kind}
@@ -157,7 +157,7 @@ look_first w d c next can other = go (look_from w d c next)
 
 module _ (s : Setup) (w : World) (me seen : ℕ) (d : Doing) (c : Command) where
   approved : (x : Op) (o : Option TapErr) → d ≡ Begun → op_of s c ≡ Some x → w.writer ≡ None → refuse (table s w) x ≡ o
-      → Shape s w me seen d c (tables.approved w me (tables.course (table s w) x) o)
+      → Shape s w me seen d c (tables.decided w me (tables.course (table s w) x) o)
   approved x None is of free no_ = Approves x is of free no_ refl
   approved x (Some r) is of free no_ = Quiet refl tt refl refl refl (ends d is)
 
@@ -185,7 +185,7 @@ module _ (s : Setup) (w : World) (me seen : ℕ) (d : Doing) (c : Command) where
       go : (o : Option Op) → op_of s c ≡ o
           → AllShaped s w me seen d c (option_map_or (tables.looks_to_change (table s w) w me) o (tables.looks_at (table s w) w (name_of me n) c))
       go None of = h (name_of me n)
-      go (Some x) of = where_only (Shape s w me seen d c) (is_none w.writer) (tables.approved w me (tables.course (table s w) x) (refuse (table s w) x))
+      go (Some x) of = where_only (Shape s w me seen d c) (is_none w.writer) (tables.decided w me (tables.course (table s w) x) (refuse (table s w) x))
           (λ e. approved x (refuse (table s w) x) is of (none_of w.writer e) refl)
 
 looks_at : (s : Setup) (w : World) (me seen : ℕ) (d : Doing) (name : Name) (c : Command) → d ≡ Begun → AllShaped s w me seen d c (tables.looks_at (table s w) w name c)
@@ -249,13 +249,13 @@ own_op s w me seen d c = where_then (Shape s w me seen d c) (op_of s c) _
 publishes : (s : Setup) (w : World) (me seen : ℕ) (d : Doing) (c : Command) → AllShaped s w me seen d c (tables.publishes s w me d c)
 publishes s w me seen (Learns file ether) c =
     where_only (Shape s w me seen (Learns file ether) c) (is_none w.writer) (tables.learns_flow w file ether)
-    (λ b. Learning file (hash ether) refl refl refl refl refl (refl, refl))
+    (λ b. Learning file (hash ether) refl refl refl refl refl (none_of w.writer b) (refl, refl))
 publishes s w me seen d c = own_op s w me seen d c
 
 teaches : (s : Setup) (w : World) (me seen : ℕ) (d : Doing) (c : Command) → AllShaped s w me seen d c (tx_turns.teaches w d)
 teaches s w me seen (Teaches file t told f) c = where_only (Shape s w me seen (Teaches file t told f) c) (is_none w.writer)
     (record (only (Goes (newest w + 1) (Transmits file t told) (found.Version (newest w + 1))) w) { ops = op.Learn file (hash f.made) ∷ [] })
-    (λ b. Learning file (hash f.made) refl refl refl refl refl (refl, refl, refl, refl, λ v h. h))
+    (λ b. Learning file (hash f.made) refl refl refl refl refl (none_of w.writer b) (refl, refl, refl, refl, λ v h. h))
 teaches s w me seen d c = tt
 
 -- what a row gives, by its equation
@@ -349,7 +349,7 @@ pokes s w me seen d c can = tt
 
 calls : (s : Setup) (w : World) (me seen : ℕ) (d : Doing) (c : Command) → d ≡ Begun → AllShaped s w me seen d c (control.calls w me seen c)
 calls s w me seen d c is = let P = Shape s w me seen d c in
-    where_then P (control.vhost_of c) _ (λ vhost e1. where_then P (at w.vhosts vhost) _ (λ v e2. where_then P (at w.guests v.guest) _
+    where_then P (control.driven_vhost c) _ (λ vhost e1. where_then P (at w.vhosts vhost) _ (λ v e2. where_then P (at w.guests v.guest) _
     (λ g e3. where_then P (control.call_of c v g.memory) _ (λ x e4. where_only P _ (control.call_effect w seen vhost v.guest x)
     (λ y. Calling vhost v g x is e1 e2 e3 e4 y refl)))))
 
@@ -394,7 +394,7 @@ tx_steps_on : (s : Setup) (w : World) (me seen : ℕ) (d : Doing) (vhost file : 
 tx_steps_on s w me seen d vhost file t told v g a b way = where_then (Shape s w me seen d (command.TxTurn vhost)) (tx_step (tx_turns.tx_state t v g.memory)) _
     (λ made e. TxTurning vhost file t told v g made refl a b way e refl)
 
-begins : (s : Setup) (w : World) (me n seen : ℕ) (c : Command) → AllShaped s w me seen Begun c (tx_turns.begins w me n seen c)
+begins : (s : Setup) (w : World) (me n seen : ℕ) (c : Command) → AllShaped s w me seen Begun c (tx_turns.turn_begins w me n seen c)
 begins s w me n seen (command.RxTurn vhost) = let P = Shape s w me seen Begun (command.RxTurn vhost) in
     where_then P (at w.vhosts vhost) _ (λ v e2. where_then P (at w.guests v.guest) _
     (λ g e3. where_then P v.settings.rx.file _ (λ file e4. where_if P (is_free 0 v && is_none v.settings.rx.queue.stopped)
@@ -430,7 +430,7 @@ hands s w me seen (Receives file t) (command.RxTurn vhost) can = let P = Shape s
 hands s w me seen (Receives file t) c can = absurd (true≢false (sym can))
 hands s w me seen d c can = tt
 
-finds_nothing : (s : Setup) (w : World) (me seen : ℕ) (d : Doing) (c : Command) → can_be d c ≡ true → AllShaped s w me seen d c (tx_turns.finds_nothing w me seen d c)
+finds_nothing : (s : Setup) (w : World) (me seen : ℕ) (d : Doing) (c : Command) → can_be d c ≡ true → AllShaped s w me seen d c (tx_turns.turn_finds_none w me seen d c)
 finds_nothing s w me seen (Receives file t) (command.RxTurn vhost) can = let P = Shape s w me seen (Receives file t) (command.RxTurn vhost) in
     where_then P (at w.vhosts vhost) _ (λ v a. where_then P (at w.guests v.guest) _ (λ g b. where_then P (at w.files file) _
     (λ f e1. where_then P (rx_step (hand.NotReady (front_place f)) (rx_turns.rx_state t v g.memory)) _
@@ -491,7 +491,7 @@ row_shape s w event.Hand me a n c next can = hands s w me a.seen a.doing c can
 row_shape s w event.PutBack me a n c next can = turns s w me n a.seen a.doing c can
 row_shape s w event.Out me a n c next can = or_else (Shape s w me a.seen a.doing c) (ring.leaves s w a.seen a.doing) (tx_turns.turns w me n a.seen a.doing c)
     (leaves s w me a.seen c a.doing) (turns s w me n a.seen a.doing c can)
-row_shape s w event.NotReady me a n c next can = or_else (Shape s w me a.seen a.doing c) (ring.finds_none w a.seen a.doing) (tx_turns.finds_nothing w me a.seen a.doing c)
+row_shape s w event.NotReady me a n c next can = or_else (Shape s w me a.seen a.doing c) (ring.finds_none w a.seen a.doing) (tx_turns.turn_finds_none w me a.seen a.doing c)
     (finds_none s w me a.seen c a.doing) (finds_nothing s w me a.seen a.doing c can)
 row_shape s w event.Owner me a n c next can = owner_row s w me a.seen a.doing c
 row_shape s w event.HostIn me a n c next can = or_else (Shape s w me a.seen a.doing c) (ring.hosts w me n a.seen a.doing) (tx_turns.hosts_of_turn w a.seen a.doing c)

@@ -8,8 +8,10 @@ use Rattle.tap_world.specs.declared.event.EventKind.TheVariants as event
 use Rattle.tap_world.specs.declared.event.Heard.{Heard}
 use Rattle.tap_world.specs.ByNumber.{at, with_at}
 use Rattle.tap_world.specs.Setup.{Setup}
-use Rattle.tap_world.specs.Line.{Entry, File, Standing, first_that, has_batch, in_batch, in_ring, is_empty, is_kept, last_that}
-use Rattle.tap_world.specs.Line.Standing.{Batched, Claimed, Cut, Out, Ready}
+use Rattle.tap_world.specs.declared.line.Entry.{Entry}
+use Rattle.tap_world.specs.declared.line.Standing.{Standing}
+use Rattle.tap_world.specs.Line.{File, first_that, has_batch, in_batch, in_ring, is_empty, is_kept, last_that}
+use Rattle.tap_world.specs.declared.line.Standing.TheVariants.{Batched, Claimed, Cut, Out, Ready}
 use Rattle.tap_world.specs.LineSteps.{Change, changed, may_leave, moves_to, ready_front}
 use Rattle.tap_world.specs.LineSteps.Change.{Claims, Cuts, Leaves, Moves, Owned, Puts, PutsBack, Reopens, Shuts, Sizes, Takes}
 use Rattle.tap_world.specs.World.{Actor, Doing, World}

@@ -11,7 +11,7 @@ use Rattle.tap_world.specs.World.{Actor, Doing, World, newest, table, current}
 use Rattle.tap_world.specs.World.Doing.{Begun}
 use Rattle.tap_world.specs.Step.{step}
 use Rattle.tap_world.specs.Runs.{IsRun, actors_from, begins, has_ended, new_file, opening, run, run_phases}
-use Rattle.tap_world.specs.Sound.{IsSound, HasRoom, capacity_before, holds, is_serving, is_receiving}
+use Rattle.tap_world.specs.Sound.{IsSound, HasRoom, table_capacity, holds, is_serving, is_receiving}
 use Rattle.tap_sound.specs.Reached.{HasPlaces, IsKept, IsReached}
 use Rattle.tap_sound.proofs.Kit.{some_same, then_some}
 use Rattle.tap_sound.proofs.Scripts.{ended_each}
@@ -113,7 +113,7 @@ opening_sound order s places guests =
     let kept = reached.opening_kept s places in
     record {
       names = names.opening_kept s;
-      room = λ file f at_. let d = declared s.files file f at_ in subst (HasRoom (capacity_before file (table s (opening s)))) d.2 (new_room d.0 _ (places file d.0 d.1));
+      room = λ file f at_. let d = declared s.files file f at_ in subst (HasRoom (table_capacity file (table s (opening s)))) d.2 (new_room d.0 _ (places file d.0 d.1));
       claims = kept.claims;
       epochs = kept.epochs;
       shut = kept.shut;

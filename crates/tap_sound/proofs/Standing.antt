@@ -13,7 +13,7 @@ use Rattle.vring_turns.specs.RxTurn.{RxTurn, rx_step}
 use Rattle.vring_turns.specs.TxTurn.{TxTurn, tx_step}
 use Rattle.scen_words.specs.declared.command.Command.{Command}
 use Rattle.scen_words.specs.declared.command.Command.TheVariants as command
-use Rattle.tap_trace.specs.declared.causes.TapText.{TapText}
+use Rattle.tap_ledger.specs.declared.error.TapErr.{TapErr as TapText}
 use Rattle.tap_trace.specs.declared.answer.Answer.{Answer}
 use Rattle.tap_trace.specs.declared.turn.ChainText.{ChainText}
 use Rattle.tap_world.specs.declared.event.EventKind.{EventKind}
@@ -49,7 +49,7 @@ use Rattle.tap_world.specs.StepTransmits as tx_turns
 use Rattle.tap_sound.proofs.Kit.{WhereSome, where_if, where_only, where_then}
 use Rattle.tap_sound.proofs.Steps.{held, or_else, own, owning, publication, turning}
 use Rattle.tap_frame.specs.declared.reading.BadFrame.{BadFrame}
-use Rattle.tap_steer.specs.declared.error.TapErr.{TapErr}
+use Rattle.tap_ledger.specs.declared.error.TapErr.{TapErr}
 use Rattle.tap_steer.specs.declared.selection.Select.{Select}
 use Rattle.tap_steer.specs.declared.selection.Select.TheVariants as select
 use Rattle.tap_steer.specs.Select as steer
@@ -89,12 +89,12 @@ and_both false b e h = absurd (true≢false (sym e))
 
 -- ---- looks
 
-approved : (w : World) (actor : ℕ) (d : Doing) (c : Command) (x : Option TapErr) → can_be d c ≡ true → To c (tables.approved w actor d x)
+approved : (w : World) (actor : ℕ) (d : Doing) (c : Command) (x : Option TapErr) → can_be d c ≡ true → To c (tables.decided w actor d x)
 approved w actor d c None h = h
 approved w actor d c (Some x) h = tt
 
 to_change : (t : Table) (w : World) (actor : ℕ) (x : Op) (c : Command) → can_be (tables.course t x) c ≡ true → AllLead c (tables.looks_to_change t w actor x)
-to_change t w actor x c h = where_only (To c) (is_none w.writer) (tables.approved w actor (tables.course t x) (refuse t x)) (λ e. approved w actor (tables.course t x) c (refuse t x) h)
+to_change t w actor x c h = where_only (To c) (is_none w.writer) (tables.decided w actor (tables.course t x) (refuse t x)) (λ e. approved w actor (tables.course t x) c (refuse t x) h)
 
 routed : (w : World) (name : Name) (device : ℕ) (hdr : Option Hdr) (bytes : List ℕ) (x : Select) → To (command.Send device hdr bytes) (tables.routed w name x)
 routed w name device hdr bytes select.NoQueue = tt
@@ -269,7 +269,7 @@ pokes w seen c = tt
 
 calls : (w : World) (actor seen : ℕ) (c : Command) → AllLead c (control.calls w actor seen c)
 calls w actor seen c =
-    where_then (To c) (control.vhost_of c) _ (λ vhost e1. where_then (To c) (at w.vhosts vhost) _ (λ v e2. where_then (To c) (at w.guests v.guest) _
+    where_then (To c) (control.driven_vhost c) _ (λ vhost e1. where_then (To c) (at w.vhosts vhost) _ (λ v e2. where_then (To c) (at w.guests v.guest) _
     (λ g e3. where_then (To c) (control.call_of c v g.memory) _ (λ x e4. where_only (To c) _ (control.call_effect w seen vhost v.guest x) (λ y. tt)))))
 
 pub ring_there : (ring : ℕ) → nat_le 2 ring ≡ false → is_ring ring ≡ true
@@ -346,7 +346,7 @@ tx_steps_on : (w : World) (actor seen vhost file : ℕ) (t : TxTurn) (told : Lis
 tx_steps_on w actor seen vhost file t told v m c h = where_then (To c) (tx_step (tx_turns.tx_state t v m)) _
     (λ made x. tx_leads seen file made.0.turn _ _ (tx_turns.tx_over made.0.turn.stage) c h)
 
-begins : (w : World) (actor n seen : ℕ) (c : Command) → AllLead c (tx_turns.begins w actor n seen c)
+begins : (w : World) (actor n seen : ℕ) (c : Command) → AllLead c (tx_turns.turn_begins w actor n seen c)
 begins w actor n seen (command.RxTurn vhost) = where_then (To (command.RxTurn vhost)) (at w.vhosts vhost) _ (λ v e2. where_then (To (command.RxTurn vhost)) (at w.guests v.guest) _
     (λ g e3. where_then (To (command.RxTurn vhost)) v.settings.rx.file _ (λ file e4. where_if (To (command.RxTurn vhost)) (is_free 0 v && is_none v.settings.rx.queue.stopped)
     (rx_turns.rx_steps_on w actor seen vhost file (rx_begun v.settings.mrg (hdr_of v.settings)) v g.memory)
@@ -372,7 +372,7 @@ hands s w actor seen (Receives file t) c h = turning (To c) w c _ (λ vhost v m.
     (λ frame e3. where_then (To c) (rx_step (hand.Got frame) (rx_turns.rx_state t v m)) _ (λ made e. rx_leads seen file made.0.turn _ (rx_turns.rx_over made.0.turn.stage) c h)))))
 hands s w actor seen d c h = tt
 
-finds_nothing : (w : World) (actor seen : ℕ) (d : Doing) (c : Command) → can_be d c ≡ true → AllLead c (tx_turns.finds_nothing w actor seen d c)
+finds_nothing : (w : World) (actor seen : ℕ) (d : Doing) (c : Command) → can_be d c ≡ true → AllLead c (tx_turns.turn_finds_none w actor seen d c)
 finds_nothing w actor seen (Receives file t) c h = turning (To c) w c _ (λ vhost v m. where_then (To c) (at w.files file) _
     (λ f e1. where_then (To c) (rx_step (hand.NotReady (front_place f)) (rx_turns.rx_state t v m)) _
     (λ made e. where_only (To c) _ (rx_turns.rx_event w actor seen vhost file v NoFile (found.NotReady (front_place f)) made)
@@ -403,7 +403,7 @@ row_leads s w event.Hand actor a n c h = hands s w actor a.seen a.doing c h
 row_leads s w event.PutBack actor a n c h = turns w actor n a.seen a.doing c h
 row_leads s w event.Out actor a n c h = or_else (To c) (ring.leaves s w a.seen a.doing) (tx_turns.turns w actor n a.seen a.doing c)
     (leaves s w a.seen a.doing c) (turns w actor n a.seen a.doing c h)
-row_leads s w event.NotReady actor a n c h = or_else (To c) (ring.finds_none w a.seen a.doing) (tx_turns.finds_nothing w actor a.seen a.doing c)
+row_leads s w event.NotReady actor a n c h = or_else (To c) (ring.finds_none w a.seen a.doing) (tx_turns.turn_finds_none w actor a.seen a.doing c)
     (finds_none w a.seen a.doing c) (finds_nothing w actor a.seen a.doing c h)
 row_leads s w event.Owner actor a n c h = owning (To c) w actor a.seen a.doing c (owns w a.seen a.doing c h) (meets_worker w a.seen a.doing c) (finds_off w a.seen a.doing c)
 row_leads s w event.HostIn actor a n c h = or_else (To c) (ring.hosts w actor n a.seen a.doing) (tx_turns.hosts_of_turn w a.seen a.doing c)

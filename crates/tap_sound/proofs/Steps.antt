@@ -1,4 +1,8 @@
 -- Each event that is allowed is one that is left to its command: all rows.
+use Rattle.tap_world.specs.declared.event.Found.TheVariants as found
+use Rattle.tap_world.specs.Line.{front_place}
+use Rattle.tap_sound.proofs.TurnEvents.{over_none, over_some, rx_finds_where, rx_steps_where, rx_takes_where, tx_steps_where}
+use Rattle.tap_trace.specs.declared.turn.TurnText.{TurnText}
 use Rattle.std.proofs.Common.{◌≡◌, ℕ, List, [], ◌∷◌, Bool, true, false, Option, Some, None, inl, inr, refl, sym, subst}
 use Rattle.guest_mem.specs.Memory.{Contents}
 use Rattle.tap_frame.specs.Frame.{FrameValue}
@@ -25,7 +29,7 @@ use Rattle.tap_world.specs.Setup.{Setup, op_of}
 use Rattle.tap_world.specs.LineSteps.{changed}
 use Rattle.tap_world.specs.LineSteps.Change.{Takes}
 use Rattle.tap_world.specs.Guests.{Vhost}
-use Rattle.tap_world.specs.World.{Doing, World}
+use Rattle.tap_world.specs.World.{Doing, World, HostFrame}
 use Rattle.tap_world.specs.World.Doing.{Given, Receives, Transmits}
 use Rattle.tap_world.specs.Effect.{Effect}
 use Rattle.tap_world.specs.Effect.Onward.{Goes}
@@ -35,7 +39,7 @@ use Rattle.tap_world.specs.StepRing as ring
 use Rattle.tap_world.specs.StepTable as tables
 use Rattle.tap_world.specs.StepTurns as rx_turns
 use Rattle.tap_world.specs.StepTransmits as tx_turns
-use Rattle.tap_sound.proofs.Kit.{WhereSome, where_if, where_only, where_some, where_then}
+use Rattle.tap_sound.proofs.Kit.{WhereSome, where_if, where_some, where_then}
 use Rattle.tap_sound.proofs.Left.{left_of, rx_closes, rx_left, rx_takes, tx_left}
 use Rattle.tap_sound.proofs.Rows.{RxGoes, TxGives, TxGoes, rx_kind, rx_step_fits, tx_kind, tx_step_fits}
 use Rattle.tap_sound.proofs.Follows.{AllFollow, Follows, Onto}
@@ -73,18 +77,21 @@ turning P w c e h =
 
 -- ---- turns
 
-rx_onto : (file file' seen : ℕ) (t u : RxTurn) (c : Command) (k : EventKind) (f : Found) (st : RxStage) → u.stage ≡ st → RxGoes t.stage k u.stage
-    → Onto (left_of (Receives file t) c) c k (rx_turns.rx_onward seen file' u f (rx_turns.rx_over st))
-rx_onto file file' seen t u c k f (rx.Ended e) is h = h [] (subst (λ (x : RxStage). HasForm (rx_left x) []) (sym is) refl)
-rx_onto file file' seen t u c k f st is h = h
+rx_onto : (file file' seen : ℕ) (t u : RxTurn) (c : Command) (k : EventKind) (f : Found) (over : Option TurnText) (st : RxStage) → u.stage ≡ st → rx_turns.over_told (rx_turns.rx_over st) ≡ Some over → RxGoes t.stage k u.stage
+    → Onto (left_of (Receives file t) c) c k (rx_turns.rx_onward seen file' u f over)
+rx_onto file file' seen t u c k f over (rx.Ended e) is ends h =
+    subst (λ (o : Option TurnText). Onto (left_of (Receives file t) c) c k (rx_turns.rx_onward seen file' u f o)) (sym (over_some e over ends).1)
+    (h [] (subst (λ (x : RxStage). HasForm (rx_left x) []) (sym is) refl))
+rx_onto file file' seen t u c k f over st is ends h =
+    subst (λ (o : Option TurnText). Onto (left_of (Receives file t) c) c k (rx_turns.rx_onward seen file' u f o)) (sym (over_none over ends)) h
 
 pub rx_follows : (w : World) (actor n seen file : ℕ) (t : RxTurn) (c : Command)
     → AllFollow (Receives file t) c (rx_kind t.stage) (tx_turns.turns w actor n seen (Receives file t) c)
 rx_follows w actor n seen file t c =
     let P : Effect → Type 0 = Follows (Receives file t) c (rx_kind t.stage) in
     turning P w c (tx_turns.goes_on w actor seen (Receives file t))
-    (λ vhost v m. where_then P (rx_step hand.Off (rx_turns.rx_state t v m)) _
-    (λ made e. rx_onto file file seen t made.0.turn c (rx_kind t.stage) _ made.0.turn.stage refl
+    (λ vhost v m. rx_steps_where P w actor seen vhost file t v m
+    (λ made f over e ends. rx_onto file file seen t made.0.turn c (rx_kind t.stage) f over made.0.turn.stage refl ends
     (where_some (λ (x : RxState × Act). RxGoes t.stage (rx_kind t.stage) x.0.turn.stage) _ made (rx_step_fits (rx_turns.rx_state t v m)) e)))
 
 -- a turn that looks for a frame
@@ -102,23 +109,25 @@ pub hand_follows : (s : Setup) (w : World) (actor seen file : ℕ) (t : RxTurn) 
     → AllFollow (Receives file t) c event.Hand (tx_turns.hands s w actor seen (Receives file t) c)
 hand_follows s w actor seen file t c is =
     let P : Effect → Type 0 = Follows (Receives file t) c event.Hand in
-    turning P w c _ (λ vhost v m. where_then P (at w.files file) _ (λ f e1. where_then P (changed (Takes vhost) f) _ (λ g e2. where_then P (rx_turns.front_frame s g) _
-    (λ frame e3. where_then P (rx_step (hand.Got frame) (rx_turns.rx_state t v m)) _
-    (λ made e. rx_onto file file seen t made.0.turn c event.Hand _ made.0.turn.stage refl
-    (where_some (λ (x : RxState × Act). RxGoes t.stage event.Hand x.0.turn.stage) _ made (rx_got frame (rx_turns.rx_state t v m) t.stage refl is) e))))))
+    turning P w c _ (λ vhost v m. rx_takes_where P s w actor seen vhost file t v m
+    (λ f g frame made over e1 e2 e3 e ends. rx_onto file file seen t made.0.turn c event.Hand (found.Moved frame.name) over made.0.turn.stage refl ends
+    (where_some (λ (x : RxState × Act). RxGoes t.stage event.Hand x.0.turn.stage) _ made (rx_got frame (rx_turns.rx_state t v m) t.stage refl is) e)))
 
 pub none_follows : (w : World) (actor seen file : ℕ) (t : RxTurn) (c : Command) → t.stage ≡ rx.Hand
-    → AllFollow (Receives file t) c event.NotReady (tx_turns.finds_nothing w actor seen (Receives file t) c)
+    → AllFollow (Receives file t) c event.NotReady (tx_turns.turn_finds_none w actor seen (Receives file t) c)
 none_follows w actor seen file t c is =
     let P : Effect → Type 0 = Follows (Receives file t) c event.NotReady in
-    turning P w c _ (λ vhost v m. where_then P (at w.files file) _ (λ f e1. where_then P (rx_step (hand.NotReady _) (rx_turns.rx_state t v m)) _
-    (λ made e. where_only P _ _ (λ b. rx_onto file file seen t made.0.turn c event.NotReady _ made.0.turn.stage refl
-    (where_some (λ (x : RxState × Act). RxGoes t.stage event.NotReady x.0.turn.stage) _ made (rx_none _ (rx_turns.rx_state t v m) t.stage is) e)))))
+    turning P w c _ (λ vhost v m. rx_finds_where P w actor seen vhost file t v m
+    (λ f made over e1 e ends. rx_onto file file seen t made.0.turn c event.NotReady (found.NotReady (front_place f)) over made.0.turn.stage refl ends
+    (where_some (λ (x : RxState × Act). RxGoes t.stage event.NotReady x.0.turn.stage) _ made (rx_none _ (rx_turns.rx_state t v m) t.stage is) e)))
 
-tx_onto : (file file' seen : ℕ) (t u : TxTurn) (told told' : List ChainText) (c : Command) (k : EventKind) (f : Found) (st : TxStage) → u.stage ≡ st
-    → TxGoes t.stage k u.stage → Onto (left_of (Transmits file t told) c) c k (tx_turns.tx_onward seen file' u told' f (tx_turns.tx_over st))
-tx_onto file file' seen t u told told' c k f (tx.Ended e) is h = h [] (subst (λ (x : TxStage). HasForm (tx_left x) []) (sym is) refl)
-tx_onto file file' seen t u told told' c k f st is h = h
+tx_onto : (file file' seen : ℕ) (t u : TxTurn) (told told' : List ChainText) (c : Command) (k : EventKind) (f : Found) (over : Option TurnText) (st : TxStage) → u.stage ≡ st
+    → rx_turns.over_told (tx_turns.tx_over st) ≡ Some over → TxGoes t.stage k u.stage → Onto (left_of (Transmits file t told) c) c k (tx_turns.tx_onward seen file' u told' f over)
+tx_onto file file' seen t u told told' c k f over (tx.Ended e) is ends h =
+    subst (λ (o : Option TurnText). Onto (left_of (Transmits file t told) c) c k (tx_turns.tx_onward seen file' u told' f o)) (sym (over_some e over ends).1)
+    (h [] (subst (λ (x : TxStage). HasForm (tx_left x) []) (sym is) refl))
+tx_onto file file' seen t u told told' c k f over st is ends h =
+    subst (λ (o : Option TurnText). Onto (left_of (Transmits file t told) c) c k (tx_turns.tx_onward seen file' u told' f o)) (sym (over_none over ends)) h
 
 -- every stage but Give
 abbrev pub Gives : TxStage → Bool
@@ -141,18 +150,18 @@ pub tx_follows : (w : World) (actor n seen file : ℕ) (t : TxTurn) (told : List
 tx_follows w actor n seen file t told c no_give =
     let P : Effect → Type 0 = Follows (Transmits file t told) c (tx_kind t.stage) in
     turning P w c (tx_turns.goes_on w actor seen (Transmits file t told))
-    (λ vhost v m. where_then P (tx_step (tx_turns.tx_state t v m)) _
-    (λ made e. tx_onto file file seen t made.0.turn told _ c (tx_kind t.stage) _ made.0.turn.stage refl
+    (λ vhost v m. tx_steps_where P w actor seen vhost file t told v m
+    (λ made k over e ends. tx_onto file file seen t made.0.turn told _ c (tx_kind t.stage) (found.Step k) over made.0.turn.stage refl ends
     (tx_goes t.stage made.0.turn.stage no_give
     (where_some (λ (x : TxState × Act). TxGives t.stage x.0.turn.stage) _ made (tx_step_fits (tx_turns.tx_state t v m)) e))))
 
 -- Give, of a transmit turn
 give_turning : (w : World) (seen file vhost : ℕ) (t : TxTurn) (told : List ChainText) (v : Vhost) (m : Contents) (P : Effect → Type 0) → t.stage ≡ tx.Give
-    → ((next : TxTurn) (f : FrameValue) (x : Found) (e : Effect) → ((es : List EventKind) → HasForm (One event.Look ⨾ Perhaps (One event.Publish) ⨾ tx_left next.stage) es → HasForm (tx_left t.stage) (event.HostIn ∷ es))
+    → ((next : TxTurn) (f : HostFrame) (x : Found) (e : Effect) → ((es : List EventKind) → HasForm (One event.Look ⨾ Perhaps (One event.Publish) ⨾ tx_left next.stage) es → HasForm (tx_left t.stage) (event.HostIn ∷ es))
     → e.onward ≡ Goes seen (Given file next told f) x → P e)
     → WhereSome P (tx_turns.gives w seen file t told v m)
 give_turning w seen file vhost t told v m P is h = where_then P t.held _ (λ f e1. where_then P (tx_step (tx_turns.tx_state t v m)) _
-    (λ made e. h made.0.turn f _ _ (λ es x. go t.stage is made.0.turn.stage
+    (λ made e. h made.0.turn (tx_turns.with_host f) _ _ (λ es x. go t.stage is made.0.turn.stage
     (where_some (λ (y : TxState × Act). TxGives t.stage y.0.turn.stage) _ made (tx_step_fits (tx_turns.tx_state t v m)) e) es x) refl))
   where
     go : (st : TxStage) → st ≡ tx.Give → (next : TxStage) → TxGives st next → (es : List EventKind)

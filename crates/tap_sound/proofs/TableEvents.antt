@@ -83,7 +83,7 @@ fits_between s w x u t can (Withdrawing y file is of no_ eq) view_ h =
     (at_view w t.between _ (Withdraws file) _ _ t.now.command is (ap (doing_after t.effect.onward) is) view_) refl refl refl in
     passes_still s w x u t (Withdraws file) (Withdrawn file (newest w + 1)) (Some t.now.command) (Some t.now.command) (y ∷ []) v.0 v.1 (ops_on s w x u t _ eq) (on_files s w x u t _ eq)
     (withdrawing s file (newest w + 1) t.now.command y (table s w) w.files (subst (λ (d : Doing). can_be d t.now.command ≡ true) is can) of) h
-fits_between s w x u t can (Learning file hash o f g v wr alike) view_ h =
+fits_between s w x u t can (Learning file hash o f g v wr free alike) view_ h =
     steady_here s w x u t (op.Learn file hash ∷ []) NoFile (alike_view w t.between t.actor.doing t.effect.onward t.now.command alike view_) o (learn_same (table s w) file hash) f tt h
 fits_between s w x u t can (BackPublishes vhost ring asked cis eq) view_ h =
     back_publishes s w x u t t.actor.doing vhost ring asked (subst (View w t.between t.actor.doing (doing_after t.effect.onward t.actor.doing)) cis view_)

@@ -4,7 +4,7 @@ use Rattle.std.specs.Prelude.{if◌then◌else◌, not, is_some}
 use Rattle.std.proofs.lemmas.Bool.{cases_lt}
 use Rattle.std.proofs.lemmas.List.{get_or-set_other, get_or-set_same, get_or_past, length-set}
 use Rattle.tap_ledger.specs.declared.side.Side.{Side}
-use Rattle.tap_steer.specs.declared.error.TapErr.{TapErr}
+use Rattle.tap_ledger.specs.declared.error.TapErr.{TapErr}
 use Rattle.tap_steer.specs.declared.files.Attachment.{Attachment}
 use Rattle.tap_steer.specs.declared.files.Attachment.TheVariants.{Disabled, Enabled, Unattached}
 use Rattle.tap_steer.specs.declared.files.File.{File}
@@ -13,7 +13,8 @@ use Rattle.tap_steer.specs.declared.operation.Op.TheVariants as op
 use Rattle.tap_steer.specs.declared.operation.TheConstants.{IFF_ATTACH_QUEUE, IFF_DETACH_QUEUE}
 use Rattle.tap_steer.specs.declared.settings.Settings.{Settings}
 use Rattle.tap_steer.specs.Table.{Table, device_of, file_at, home, is_disabled, is_set, new_file}
-use Rattle.tap_steer.specs.Rules.{attach_rules, backer, detach_rules, first_broken, has_device, no_flag_rules, refuse}
+use Rattle.tap_ground.specs.Options.{first_that_holds as first_broken}
+use Rattle.tap_steer.specs.Rules.{attach_rules, backer, detach_rules, has_device, no_flag_rules, refuse}
 use Rattle.tap_steer.specs.After.{after, attach_queue, attached_file, back, backed, detach_queue, disabled, enabled, learn, learn_at, left, resize, resized, set_at, set_device, set_iff, shut, standing, tick}
 use Rattle.tap_world.specs.StepTable.{is_enabled}
 

@@ -1,8 +1,7 @@
 -- Every event keeps what files have of the table.
 use Rattle.std.proofs.Common.{◌≡◌, ℕ, ◌+◌, List, [], ◌∷◌, ◌++◌, map, Bool, true, false, Option, Some, None, refl, sym, ap, ◌∙◌, subst, true≢false}
-use Rattle.std.specs.Prelude.{if◌then◌else◌, ◌==◌, not, option_map}
+use Rattle.std.specs.Prelude.{if◌then◌else◌, ◌==◌, not}
 use Rattle.guest_mem.specs.Memory.{Contents}
-use Rattle.tap_steer.specs.declared.error.TapErr.{TapErr}
 use Rattle.tap_steer.specs.declared.operation.Op.{Op}
 use Rattle.tap_steer.specs.declared.operation.Op.TheVariants as op
 use Rattle.tap_steer.specs.declared.operation.TheConstants.{IFF_ATTACH_QUEUE}
@@ -16,13 +15,13 @@ use Rattle.vhost_dev.specs.Settings.{ring_at}
 use Rattle.scen_words.specs.declared.command.Command.{Command}
 use Rattle.scen_words.specs.declared.command.Command.TheVariants as command
 use Rattle.tap_trace.specs.declared.answer.Answer.{Answer}
-use Rattle.tap_trace.specs.declared.causes.TapText.{TapText}
+use Rattle.tap_ledger.specs.declared.error.TapErr.{TapErr as TapText}
 use Rattle.tap_world.specs.declared.event.Event.{Event}
 use Rattle.tap_world.specs.declared.event.Found.TheVariants as found
-use Rattle.tap_world.specs.Causes.{tap_text}
 use Rattle.tap_world.specs.Setup.{Setup, op_of, opening_table}
 use Rattle.tap_world.specs.Guests.{Vhost, is_ring}
-use Rattle.tap_world.specs.World.{Doing, Published, World, newest, table}
+use Rattle.tap_world.specs.declared.told.Published.{Published}
+use Rattle.tap_world.specs.World.{Doing, World, newest, table}
 use Rattle.tap_world.specs.World.Doing.{Backed, Backs, Begun, Changes, Disowned, Opens, Owns, Released, Resizes, Unbacked, Withdraws}
 use Rattle.tap_world.specs.Effect.{Effect, OnFiles, Onward, files_after, only}
 use Rattle.tap_world.specs.Effect.OnFiles.{NoFile, OnFile}
@@ -146,16 +145,12 @@ course_found s (command.Tick time) x t of no_ = subst (λ (y : Op). IsAsFound (t
 course_found s (command.Resize file capacity) x t of no_ = subst (λ (y : Op). IsAsFound (tables.course t y) (Some (command.Resize file capacity)) t) (some_same _ x of) tt
 course_found s c x t of no_ = absurd (cc (of))
 
-no_text : (o : Option TapErr) → option_map tap_text o ≡ None → o ≡ None
-no_text None e = refl
-no_text (Some x) e = absurd (cc (e))
-
 -- what a backend finds at its look
 pub back_found : (t : Table) (vhost ring : ℕ) (file : Option ℕ) → back.back_refusal t vhost ring file ≡ None → IsAsFound (Backs None) (Some (command.Backend vhost ring file)) t
 back_found t vhost ring None e = tt
 back_found t vhost ring (Some file) e = λ there.
     back_finds t file (back.side_of ring) vhost
-    (no_text _ (ap (λ (b : Bool). if b then option_map tap_text (refuse t (op.Back file (back.side_of ring) (Some vhost))) else None) (sym there) ∙ e))
+    (ap (λ (b : Bool). if b then refuse t (op.Back file (back.side_of ring) (Some vhost)) else None) (sym there) ∙ e)
 
 -- the table after what an event publishes
 module _ (s : Setup) (w : World) (x : Event) (u : World) (t : IsStep s w x u) where

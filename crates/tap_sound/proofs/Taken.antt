@@ -4,7 +4,7 @@ use Rattle.std.specs.Prelude.{if◌then◌else◌, ◌==◌, ◌&&◌, slice_get
 use Rattle.std.proofs.lemmas.Bool.Decides.{eqb_tells}
 use Rattle.tap_world.specs.declared.event.Event.{Event}
 use Rattle.tap_world.specs.declared.event.Heard.{Heard}
-use Rattle.tap_world.specs.Then.{◌>>=◌}
+use Rattle.tap_ground.specs.Options.{◌>>=◌}
 use Rattle.tap_world.specs.ByNumber.{at, with_at, with_nth}
 use Rattle.tap_world.specs.Setup.{Numbered, Setup}
 use Rattle.tap_world.specs.Line.{File, is_empty}

@@ -7,7 +7,7 @@ use Rattle.tap_steer.specs.declared.operation.Op.{Op}
 use Rattle.tap_steer.specs.Select.{learns}
 use Rattle.scen_words.specs.declared.command.Command.{Command}
 use Rattle.scen_words.specs.declared.command.Command.TheVariants as command
-use Rattle.tap_trace.specs.declared.causes.TapText.{TapText}
+use Rattle.tap_ledger.specs.declared.error.TapErr.{TapErr as TapText}
 use Rattle.tap_world.specs.ByNumber.{at}
 use Rattle.tap_world.specs.Frames.{Front}
 use Rattle.std.proofs.Common.{true≢false}
@@ -30,13 +30,13 @@ use Rattle.tap_world.specs.StepTransmits as tx_turns
 use Rattle.tap_sound.proofs.Kit.{WhereSome, either, where_only, where_then}
 use Rattle.tap_sound.proofs.Steps.{own, publication}
 use Rattle.tap_frame.specs.declared.reading.BadFrame.{BadFrame}
-use Rattle.tap_steer.specs.declared.error.TapErr.{TapErr}
+use Rattle.tap_ledger.specs.declared.error.TapErr.{TapErr}
 use Rattle.tap_steer.specs.declared.selection.Select.{Select}
 use Rattle.tap_steer.specs.declared.selection.Select.TheVariants as select
 use Rattle.tap_steer.specs.Select as steer
 use Rattle.tap_steer.specs.Table.{Table}
 use Rattle.tap_world.specs.Frames.{bad_in, ether_in, least_in, sent_bytes, sent_front}
-use Rattle.tap_world.specs.Line.Standing.{Out}
+use Rattle.tap_world.specs.declared.line.Standing.TheVariants.{Out}
 use Rattle.tap_world.specs.LineSteps.Change.{Leaves, Sizes}
 use Rattle.tap_world.specs.Effect.{OnFiles}
 use Rattle.tap_world.specs.Effect.OnFiles.{OnFile}
@@ -78,7 +78,7 @@ one_more w = omega arith
 
 -- ---- looks
 
-approved : (w : World) (b z : Bool) (actor : ℕ) (d : Doing) (x : Option TapErr) → IsTame w b z (tables.approved w actor d x)
+approved : (w : World) (b z : Bool) (actor : ℕ) (d : Doing) (x : Option TapErr) → IsTame w b z (tables.decided w actor d x)
 approved w b z actor d None = (λ e. refl, tt, λ e. tt, now w)
 approved w b z actor d (Some x) = (λ e. refl, tt, λ e. tt, now w)
 
@@ -121,7 +121,7 @@ looks s w b z actor a n c = go (op_of s c)
   where
     go : (o : Option Op) → AllTame w b z (option_map_or (tables.looks_to_change (table s w) w actor) o (tables.looks_at (table s w) w (name_of actor n) c))
     go None = looks_at w b z (table s w) (name_of actor n) c
-    go (Some x) = where_only (IsTame w b z) (is_none w.writer) (tables.approved w actor (tables.course (table s w) x) (refuse (table s w) x)) (λ e. approved w b z actor _ _)
+    go (Some x) = where_only (IsTame w b z) (is_none w.writer) (tables.decided w actor (tables.course (table s w) x) (refuse (table s w) x)) (λ e. approved w b z actor _ _)
 
 looks_at_flow : (s : Setup) (w : World) (b z : Bool) (d : Doing) → AllTame w b z (tx_turns.looks_at_flow s w d)
 looks_at_flow s w b z (Given file t told f) = (λ e. refl, tt, λ e. tt, now w)

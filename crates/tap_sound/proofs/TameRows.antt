@@ -13,7 +13,7 @@ use Rattle.vring_turns.specs.RxTurn.{RxState, RxTurn, rx_step}
 use Rattle.vring_turns.specs.TxTurn.{TxTurn, tx_step}
 use Rattle.scen_words.specs.declared.command.Command.{Command}
 use Rattle.scen_words.specs.declared.command.Command.TheVariants as command
-use Rattle.tap_trace.specs.declared.causes.TapText.{TapText}
+use Rattle.tap_ledger.specs.declared.error.TapErr.{TapErr as TapText}
 use Rattle.tap_trace.specs.declared.answer.Answer.{Answer}
 use Rattle.tap_trace.specs.declared.turn.ChainText.{ChainText}
 use Rattle.tap_world.specs.declared.event.EventKind.{EventKind}
@@ -122,7 +122,7 @@ pokes w b z seen c le = tt
 
 calls : (w : World) (b z : Bool) (actor seen : ℕ) (c : Command) → IsBelow w seen → AllTame w b z (control.calls w actor seen c)
 calls w b z actor seen c le =
-    where_then (IsTame w b z) (control.vhost_of c) _ (λ vhost e1. where_then (IsTame w b z) (at w.vhosts vhost) _ (λ v e2. where_then (IsTame w b z) (at w.guests v.guest) _
+    where_then (IsTame w b z) (control.driven_vhost c) _ (λ vhost e1. where_then (IsTame w b z) (at w.vhosts vhost) _ (λ v e2. where_then (IsTame w b z) (at w.guests v.guest) _
     (λ g e3. where_then (IsTame w b z) (control.call_of c v g.memory) _ (λ x e4. where_only (IsTame w b z) _ (control.call_effect w seen vhost v.guest x) (λ y. (λ e. refl, tt, λ e. tt, le))))))
 
 sets_back : (w : World) (b z : Bool) (actor seen vhost r file : ℕ) (x : Option TapText) (v : Vhost) (m : Contents) (a : Option Answer) → IsBelow w seen
@@ -188,7 +188,7 @@ tx_steps_on : (w : World) (b z : Bool) (actor seen vhost file : ℕ) (t : TxTurn
 tx_steps_on w b z actor seen vhost file t told v m le = where_then (IsTame w b z) (tx_step (tx_turns.tx_state t v m)) _
     (λ made x. (λ e. refl, tt, λ e. tt, tx_seen (newest w + 0) seen file made.0.turn _ _ (tx_turns.tx_over made.0.turn.stage) le))
 
-begins : (w : World) (b z : Bool) (actor n seen : ℕ) (c : Command) → IsBelow w seen → AllTame w b z (tx_turns.begins w actor n seen c)
+begins : (w : World) (b z : Bool) (actor n seen : ℕ) (c : Command) → IsBelow w seen → AllTame w b z (tx_turns.turn_begins w actor n seen c)
 begins w b z actor n seen c le = where_then (IsTame w b z) (rx_turns.turn_on c) _ (λ t e1. where_then (IsTame w b z) (at w.vhosts t.0) _ (λ v e2. where_then (IsTame w b z) (at w.guests v.guest) _
     (λ g e3. either (AllTame w b z) (t.1 == 0) (rx_turns.rx_begins w actor seen t.0 v g.memory) (tx_turns.tx_begins w actor n seen t.0 v g.memory)
     (where_then (IsTame w b z) v.settings.rx.file _ (λ file e4. where_if (IsTame w b z) (is_free 0 v && is_none v.settings.rx.queue.stopped)
@@ -212,7 +212,7 @@ hands s w b z actor seen (Receives file t) c le = turning (IsTame w b z) w c _ (
     (λ made e. rx_event w b z actor seen vhost file v (OnFile file (Takes vhost)) (found.Moved frame.name) made tt tt le)))))
 hands s w b z actor seen d c le = tt
 
-finds_nothing : (w : World) (b z : Bool) (actor seen : ℕ) (d : Doing) (c : Command) → IsBelow w seen → AllTame w b z (tx_turns.finds_nothing w actor seen d c)
+finds_nothing : (w : World) (b z : Bool) (actor seen : ℕ) (d : Doing) (c : Command) → IsBelow w seen → AllTame w b z (tx_turns.turn_finds_none w actor seen d c)
 finds_nothing w b z actor seen (Receives file t) c le = turning (IsTame w b z) w c _ (λ vhost v m. where_then (IsTame w b z) (at w.files file) _
     (λ f e1. where_then (IsTame w b z) (rx_step (hand.NotReady (front_place f)) (rx_turns.rx_state t v m)) _
     (λ made e. where_only (IsTame w b z) _ (rx_turns.rx_event w actor seen vhost file v NoFile (found.NotReady (front_place f)) made)
@@ -252,7 +252,7 @@ row_is_tame s w event.Hand actor a n c le = hands s w false false actor a.seen a
 row_is_tame s w event.PutBack actor a n c le = turns w false false actor n a.seen a.doing c le
 row_is_tame s w event.Out actor a n c le = or_else (IsTame w false false) (ring.leaves s w a.seen a.doing) (tx_turns.turns w actor n a.seen a.doing c)
     (leaves s w false false a.seen a.doing le) (turns w false false actor n a.seen a.doing c le)
-row_is_tame s w event.NotReady actor a n c le = or_else (IsTame w false false) (ring.finds_none w a.seen a.doing) (tx_turns.finds_nothing w actor a.seen a.doing c)
+row_is_tame s w event.NotReady actor a n c le = or_else (IsTame w false false) (ring.finds_none w a.seen a.doing) (tx_turns.turn_finds_none w actor a.seen a.doing c)
     (finds_none w false false a.seen a.doing le) (finds_nothing w false false actor a.seen a.doing c le)
 row_is_tame s w event.Owner actor a n c le = owning (IsTame w false false) w actor a.seen a.doing c (owns w false false a.seen a.doing c le)
     (meets_worker w false false a.seen a.doing le) (finds_off w false false a.seen a.doing c le)

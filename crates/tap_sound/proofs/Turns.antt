@@ -14,11 +14,11 @@ use Rattle.scen_words.specs.declared.command.Command.{Command}
 use Rattle.scen_words.specs.declared.command.Command.TheVariants as command
 use Rattle.tap_steer.specs.Select as steer
 use Rattle.tap_trace.specs.declared.answer.Answer.{Answer}
-use Rattle.tap_trace.specs.declared.causes.TapText.{TapText}
+use Rattle.tap_ledger.specs.declared.error.TapErr.{TapErr as TapText}
 use Rattle.tap_trace.specs.declared.turn.ChainText.{ChainText}
 use Rattle.tap_world.specs.declared.event.Event.{Event}
 use Rattle.tap_world.specs.declared.event.Found.{Found}
-use Rattle.tap_world.specs.Then.{only_if}
+use Rattle.tap_ground.specs.Options.{only_if}
 use Rattle.tap_world.specs.ByNumber.{at, with_nth}
 use Rattle.vhost_queue.specs.Queue.{Queue}
 use Rattle.tap_world.specs.Guests.{with_queue, Vhost, is_ring, turn_of, with_turn}
@@ -280,7 +280,7 @@ turning s w me seen d c r can (Shutting file version f is at_ eq) = subst (Turni
 turning s w me seen d c r can (Sizing file capacity f is at_ eq) = subst (Turning w me d c) eq (Unmoved (λ n v e. (v, e, refl, refl)) (sym (ap holds_turn is)))
 turning s w me seen d c r can (Publishing x v y last of no_ eq) = subst (Turning w me d c) eq (Unmoved (λ n v e. (v, e, refl, refl)) (sym (last_free d last)))
 turning s w me seen d c r can (Withdrawing x file is of no_ eq) = subst (Turning w me d c) eq (Unmoved (λ n v e. (v, e, refl, refl)) (sym (ap holds_turn is)))
-turning s w me seen d c r can (Learning file hash o f g v wr alike) = Unmoved (none_changed w r v) (alike_turns d r.onward alike)
+turning s w me seen d c r can (Learning file hash o f g v wr free alike) = Unmoved (none_changed w r v) (alike_turns d r.onward alike)
 turning s w me seen d c r can (BackPublishes vhost ring asked cis eq) =
     subst (λ (q : Command). Turning w me d q r) (sym cis)
     (back_publishing w me seen d vhost ring asked r (subst (λ (q : Command). can_be d q ≡ true) cis can) eq)

@@ -14,7 +14,7 @@ use Rattle.scen_text.specs.declared.scenario.Scenario.{Scenario}
 use Rattle.scen_words.specs.declared.command.Command.{Command}
 use Rattle.tap_world.specs.declared.event.Event.{Event}
 use Rattle.tap_world.specs.declared.event.Heard.{Heard}
-use Rattle.tap_world.specs.Then.{◌>>=◌}
+use Rattle.tap_ground.specs.Options.{◌>>=◌}
 use Rattle.tap_world.specs.ByNumber.{at}
 use Rattle.tap_world.specs.Setup.{Declared, Numbered, Setup, setup_of}
 use Rattle.tap_world.specs.Line.{File}
@@ -26,7 +26,7 @@ use Rattle.tap_world.specs.StepTable.{is_enabled}
 use Rattle.tap_world.specs.Runs.{actors_from, begins, has_ended, new_file, opening, run, run_phases}
 use Rattle.tap_world.specs.SoundRings.{IsActor, holds_turn, is_about}
 use Rattle.tap_world.specs.SoundTable.{Agreed, IsAsFound, backer_by, commanded, expected, has_of, of_table, on_side, writing}
-use Rattle.tap_world.specs.Sound.{HasRoom, capacity_before, holds}
+use Rattle.tap_world.specs.Sound.{HasRoom, table_capacity, holds}
 use Rattle.tap_sound.specs.Held.{IsHeld}
 use Rattle.tap_sound.specs.Reached.{HasPlaces, IsKept, IsReached}
 use Rattle.tap_sound.specs.Tabled.{HasTable}
@@ -63,7 +63,7 @@ sound_but_rings_is_kept s w x u e h = record {
 -- ---- what the table and who holds what add to the parts that stand in every world of a run
 
 record Adds (s : Setup) (w : World) : Type 0 where
-  room : (file : ℕ) (f : File) → at w.files file ≡ Some f → HasRoom (capacity_before file (table s w)) f
+  room : (file : ℕ) (f : File) → at w.files file ≡ Some f → HasRoom (table_capacity file (table s w)) f
   tabled : HasTable s w
   held : IsHeld w
   kept : IsKept w
@@ -231,7 +231,7 @@ opening_tabled s = record {
 opening_adds : (s : Setup) → HasPlaces s → Adds s (opening s)
 opening_adds s places = record {
   room = λ file f here. let d = declared s.files file f here in
-      subst (HasRoom (capacity_before file (table s (opening s)))) d.2 (new_room (capacity_before file (table s (opening s))) d.0 (places file d.0 d.1));
+      subst (HasRoom (table_capacity file (table s (opening s)))) d.2 (new_room (table_capacity file (table s (opening s))) d.0 (places file d.0 d.1));
   tabled = opening_tabled s;
   held = record {
     writer = λ i a at_. absurd (no_actor i a at_);

@@ -16,7 +16,7 @@ use Rattle.scen_words.specs.declared.command.Command.{Command}
 use Rattle.scen_words.specs.declared.command.Command.TheVariants as command
 use Rattle.tap_steer.specs.Select as steer
 use Rattle.tap_trace.specs.declared.answer.Answer.{Answer}
-use Rattle.tap_trace.specs.declared.causes.TapText.{TapText}
+use Rattle.tap_ledger.specs.declared.error.TapErr.{TapErr as TapText}
 use Rattle.tap_trace.specs.declared.turn.ChainText.{ChainText}
 use Rattle.tap_world.specs.declared.event.Event.{Event}
 use Rattle.tap_world.specs.declared.event.Found.{Found}
@@ -151,7 +151,7 @@ holding s w me seen d c r can (Shutting file version f is at_ eq) = subst (Holdi
 holding s w me seen d c r can (Sizing file capacity f is at_ eq) = subst (Holding w me d) eq (Rests refl (sym (ap holds is)))
 holding s w me seen d c r can (Publishing x v y last of no_ eq) = subst (Holding w me d) eq (Gives (last_holds d last) refl refl)
 holding s w me seen d c r can (Withdrawing x file is of no_ eq) = subst (Holding w me d) eq (Rests refl (sym (ap holds is)))
-holding s w me seen d c r can (Learning file hash o f g v wr alike) = Rests wr (alike_holds d r.onward alike)
+holding s w me seen d c r can (Learning file hash o f g v wr free alike) = Rests wr (alike_holds d r.onward alike)
 holding s w me seen d c r can (BackPublishes vhost ring asked cis eq) = back_publishing w me d vhost ring asked r eq
 holding s w me seen d c r can (Owning vhost ring asked cis eq) = owning w me seen d vhost ring asked r eq
 holding s w me seen d c r can (BackDrives x vhost ring file v g is cis a b free eq) =

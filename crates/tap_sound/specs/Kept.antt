@@ -9,7 +9,7 @@ use Rattle.tap_world.specs.Line.{File, claimed, count, in_batch}
 use Rattle.tap_world.specs.World.{World, table}
 use Rattle.tap_world.specs.Step.{step}
 use Rattle.tap_world.specs.SoundActors.{CanBe}
-use Rattle.tap_world.specs.Sound.{ClaimIsHeld, EachActor, EachFile, HasEpochs, HasRoom, HasSeen, InThreeParts, IsEmptyWhenShut, capacity_before}
+use Rattle.tap_world.specs.Sound.{ClaimIsHeld, EachActor, EachFile, HasEpochs, HasRoom, HasSeen, InThreeParts, IsEmptyWhenShut, table_capacity}
 
 -- Every event keeps that epochs never fall along a line, and that what waits has the gate's.
 abbrev pub EpochsAreKept : Type 0
@@ -46,8 +46,8 @@ leaves_sizes k = true
 abbrev pub RoomIsKept : Type 0
 RoomIsKept =
     (s : Setup) (w : World) (e : Event) (u : World × Heard) → step s w e ≡ Some u → leaves_sizes e.kind ≡ true
-    → EachActor w (HasSeen w) → EachFile w (λ file f. HasRoom (capacity_before file (table s w)) f)
-    → EachFile u.0 (λ file f. HasRoom (capacity_before file (table s u.0)) f)
+    → EachActor w (HasSeen w) → EachFile w (λ file f. HasRoom (table_capacity file (table s w)) f)
+    → EachFile u.0 (λ file f. HasRoom (table_capacity file (table s u.0)) f)
 
 -- Every event keeps that each command has come as far as it can and no further, and that an actor without one has begun
 -- none.

@@ -8,7 +8,7 @@ use Rattle.tap_world.specs.World.{World, table}
 use Rattle.tap_world.specs.Step.{step}
 use Rattle.tap_world.specs.SoundActors.{CanBe}
 use Rattle.tap_world.specs.SoundNames.{NamesStandOnce}
-use Rattle.tap_world.specs.Sound.{ClaimIsHeld, EachActor, EachFile, HandIsOwners, HasEpochs, HasRoom, HasSeen, IsEmptyWhenShut, capacity_before}
+use Rattle.tap_world.specs.Sound.{ClaimIsHeld, EachActor, EachFile, HandIsOwners, HasEpochs, HasRoom, HasSeen, IsEmptyWhenShut, table_capacity}
 use Rattle.tap_sound.specs.Held.{IsHeld}
 use Rattle.tap_sound.specs.Reached.{HasPlaces, IsReached}
 use Rattle.tap_sound.specs.Tabled.{HasTable}
@@ -16,7 +16,7 @@ use Rattle.tap_sound.specs.Tabled.{HasTable}
 -- All parts of what is sound, but that rings are in order and served by those who hold their turns.
 pub record IsSoundButRings (s : Setup) (w : World) : Type 0 where
   pub names : NamesStandOnce w
-  pub room : EachFile w (λ file f. HasRoom (capacity_before file (table s w)) f)
+  pub room : EachFile w (λ file f. HasRoom (table_capacity file (table s w)) f)
   pub claims : EachFile w (ClaimIsHeld w)
   pub epochs : EachFile w (λ file f. HasEpochs f)
   pub shut : EachFile w (IsEmptyWhenShut w)

@@ -84,7 +84,7 @@ size_is_good t s d = size_in (device_at t d) (length t.programs) t.clock (s.good
 pub places_are_good : (t : Table) → IsSound t → (k : ℕ) (d : Device) → device_at t k ≡ Some d → AreSettings (length t.programs) d.settings
 places_are_good t s k d e = (IfSome-at (device_at t k) (IsGood (length t.programs) t.clock) d e (s.good k)).settings
 
-times_at : (rows : List Row) (i : ℕ) (row : Row) → slice_get rows i ≡ Some row → 0 < times row.file rows
+pub times_at : (rows : List Row) (i : ℕ) (row : Row) → slice_get rows i ≡ Some row → 0 < times row.file rows
 times_at [] i row e = absurd (none-some row e)
 times_at (x ∷ xs) zero row e =
     let here : times row.file (x ∷ xs) ≡ 1 + times row.file xs =

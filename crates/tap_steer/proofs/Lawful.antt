@@ -8,12 +8,13 @@ use Rattle.tap_queues.specs.declared.queues.Row.{Row}
 use Rattle.tap_queues.specs.Rows.{index_of}
 use Rattle.tap_flows.specs.Flow.{FlowList}
 use Rattle.tap_flows.specs.FlowList.{forgotten}
-use Rattle.tap_steer.specs.declared.error.TapErr.{TapErr}
+use Rattle.tap_ledger.specs.declared.error.TapErr.{TapErr}
 use Rattle.tap_steer.specs.declared.files.Attachment.{Attachment}
 use Rattle.tap_steer.specs.declared.files.Attachment.TheVariants.{Unattached, Enabled, Disabled}
 use Rattle.tap_steer.specs.Table.{Table, Device, file_at, device_at, home, has, is_left, queue_count, is_set}
 use Rattle.tap_steer.specs.declared.operation.TheConstants.{IFF_ATTACH_QUEUE, IFF_DETACH_QUEUE}
-use Rattle.tap_steer.specs.Rules.{Rule, first_broken, set_iff_rules, set_queue_rules, attach_rules, detach_rules, no_flag_rules, resize_rules, hdr_size_rules, has_device, is_full}
+use Rattle.tap_ground.specs.Options.{first_that_holds as first_broken}
+use Rattle.tap_steer.specs.Rules.{Rule, set_iff_rules, set_queue_rules, attach_rules, detach_rules, no_flag_rules, resize_rules, hdr_size_rules, has_device, is_full}
 use Rattle.tap_steer.specs.After.{joined, found_left, without_row, without_disabled, row_of}
 use Rattle.tap_steer.specs.Sound.{times, rows_of, disabled_of, enabled_in, disabled_in, IsGood, IsSound, LeadsWithin}
 use Rattle.tap_steer.specs.Slot.{HasRoom, HasRow, IsEmptied, IsNotAhead}

@@ -6,4 +6,5 @@ pub mod SoundLemmas
 pub mod SoundOps
 pub mod SlotLemmas
 pub mod LawLemmas
-pub mod BackedLemmas
+pub mod FileLaws
+pub mod RowLaws

@@ -21,7 +21,8 @@ use Rattle.tap_steer.specs.declared.operation.Op.{Op}
 use Rattle.tap_steer.specs.declared.operation.Op.TheVariants as op
 use Rattle.tap_steer.specs.declared.operation.TheConstants.{IFF_ATTACH_QUEUE}
 use Rattle.tap_steer.specs.Named.{IsNamed}
-use Rattle.tap_steer.specs.Rules.{refuse, first_broken, set_iff_rules, tick_rules}
+use Rattle.tap_ground.specs.Options.{first_that_holds as first_broken}
+use Rattle.tap_steer.specs.Rules.{refuse, set_iff_rules, tick_rules}
 use Rattle.tap_steer.specs.After.{attached_file, standing, with_row, without_row, with_disabled, without_disabled, row_of, joined, found_left, set_iff, enabled, disabled, left, attach_queue, detach_queue, shut, if_kept, with_settings, with_header_size, with_persistence, with_steering, with_filter, set_at, set_device, learn_at, learn, backed, back, resized, resize, after, is_learning, learning, aged, without_old, tick}
 use Rattle.tap_steer.specs.Sound.{times, rows_of, disabled_of, enabled_in, disabled_in, disabled_files, AtOwnEpochs, LeadsWithin, AreSettings, IsGood, IsSound}
 use Rattle.tap_steer.proofs.Homes.{IfSome-at, enabled_here, disabled_here, enabled_is_name, disabled_is_name, home_is_name}

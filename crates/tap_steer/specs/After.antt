@@ -3,7 +3,7 @@ use Rattle.std.specs.Prelude.{ℕ, ◌+◌, ◌-◌, ◌&&◌, nat_lt, Bool, fal
 use Rattle.std.specs.Option.{option_map}
 use Rattle.tap_queues.specs.Rows.{attached, detached, index_of}
 use Rattle.tap_flows.specs.FlowList.{learnt, forgotten, ticked}
-use Rattle.tap_steer.specs.declared.error.TapErr.{TapErr}
+use Rattle.tap_ledger.specs.declared.error.TapErr.{TapErr}
 use Rattle.tap_steer.specs.declared.files.Attachment.{Attachment}
 use Rattle.tap_steer.specs.declared.files.Attachment.TheVariants.{Unattached, Enabled, Disabled}
 use Rattle.tap_steer.specs.declared.files.File.{File}

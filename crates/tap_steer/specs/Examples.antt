@@ -2,11 +2,11 @@
 use Rattle.std.specs.Prelude.{◌≡◌, ℕ, List, [], ◌∷◌, ◌++◌, replicate, Option, Some, None, true}
 use Rattle.tap_queues.specs.declared.queues.Row.{Row as QueueRow}
 use Rattle.tap_flow_key.specs.FlowKey.{hash}
-use Rattle.tap_steer.specs.declared.error.TapErr.{TapErr}
-use Rattle.tap_steer.specs.declared.error.TapErr.TheVariants.{EEXIST, EINVAL, EBUSY, E2BIG, EBADFD, ENOTSUP}
-use Rattle.tap_steer.specs.declared.error.Invalid.TheVariants.{Kind, Multi, NotDetached, Detached, NoFlag, Clock}
-use Rattle.tap_steer.specs.declared.error.Busy.TheVariants.{Exclusive, OneQueue, Backed}
-use Rattle.tap_steer.specs.declared.error.TooBig.TheVariants.{Resizes}
+use Rattle.tap_ledger.specs.declared.error.TapErr.{TapErr}
+use Rattle.tap_ledger.specs.declared.error.TapErr.TheVariants.{EEXIST, EINVAL, EBUSY, E2BIG, EBADFD, ENOTSUP}
+use Rattle.tap_ledger.specs.declared.error.Invalid.TheVariants.{Kind, Multi, NotDetached, Detached, NoFlag, Clock}
+use Rattle.tap_ledger.specs.declared.error.Busy.TheVariants.{Exclusive, OneQueue, Backed}
+use Rattle.tap_ledger.specs.declared.error.TooBig.TheVariants.{Resizes}
 use Rattle.tap_ledger.specs.declared.side.Side.TheVariants.{Rx}
 use Rattle.tap_steer.specs.declared.operation.Op.{Op}
 use Rattle.tap_steer.specs.declared.operation.Op.TheVariants.{SetIff, SetQueue, Shut, Persist, Learn, Tick, Steering, Filter, Back, Resize}

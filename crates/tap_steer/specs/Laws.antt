@@ -1,11 +1,17 @@
 -- This project's own: what holds after any lawful operations.
-use Rattle.std.specs.Prelude.{◌≡◌, ℕ, ◌<◌, ◌≤◌, ◌⊎◌, true, List, [], ◌∷◌, length, Some, None, IfSome}
+use Rattle.std.specs.Prelude.{◌≡◌, ℕ, ◌+◌, ◌<◌, ◌≤◌, ◌⊎◌, true, List, [], ◌∷◌, length, Some, None, IfSome, is_some}
+use Rattle.tap_queues.specs.declared.queues.Row.{Row as QueueRow}
 use Rattle.tap_steer.specs.declared.files.Attachment.TheVariants.{Enabled}
+use Rattle.tap_steer.specs.declared.files.File.{File}
 use Rattle.tap_steer.specs.declared.operation.Op.{Op}
-use Rattle.tap_steer.specs.Table.{Table, Device, first, file_at, next_epoch, device_at, device_of, is_left}
-use Rattle.tap_steer.specs.Rules.{refuse}
+use Rattle.tap_steer.specs.declared.operation.Op.TheVariants as op
+use Rattle.tap_steer.specs.declared.operation.TheConstants.{IFF_ATTACH_QUEUE}
+use Rattle.tap_steer.specs.declared.selection.Select.TheVariants.{Row}
+use Rattle.tap_steer.specs.Table.{Table, Device, first, file_at, home, is_enabled, next_epoch, device_at, device_of, is_left, is_set}
+use Rattle.tap_steer.specs.Rules.{is_backed, refuse}
 use Rattle.tap_steer.specs.After.{after, after_all, set_iff, shut, with_row, without_row, found_left}
 use Rattle.tap_steer.specs.Named.{IsNamed}
+use Rattle.tap_steer.specs.Select.{select}
 use Rattle.tap_steer.specs.Sound.{IsSound}
 
 -- one after the other, each operation names what is there and isn't refused
@@ -26,6 +32,52 @@ abbrev pub EpochsNeverFall : Type 0
 EpochsNeverFall =
     (t : Table) (operations : List Op) (file : ℕ)
     → (file_at t file).epoch ≤ (file_at (after_all t operations) file).epoch
+
+-- a file's epoch stays, or its queue is enabled under the next one
+abbrev pub StaysOrIsEnabled : File → File → Type 0
+StaysOrIsEnabled f g = (g.epoch ≡ f.epoch) ⊎ ((g.epoch ≡ f.epoch + 1) × (is_enabled g.attachment ≡ true))
+
+-- an operation raises an epoch by one at most, and only where it enables the file's queue
+abbrev pub EpochsRiseByOne : Type 0
+EpochsRiseByOne =
+    (t : Table) (operation : Op) (file : ℕ) → StaysOrIsEnabled (file_at t file) (file_at (after t operation) file)
+
+-- A file with a device was attached, so its epoch is at least 1. Only a file with a device is the backend of a ring.
+pub record IsInUse (f : File) : Type 0 where
+  pub numbered : is_some (home f.attachment) ≡ true → 0 < f.epoch
+  pub backed : is_backed f ≡ true → is_some (home f.attachment) ≡ true
+
+-- so it is of each file that lawful operations reach
+abbrev pub FilesAreInUse : Type 0
+FilesAreInUse =
+    (programs : List (List ℕ)) (capacities : List ℕ) (flows : List (ℕ × ℕ)) (operations : List Op)
+    → AreLawful (first programs capacities flows) operations
+    → (file : ℕ) → IsInUse (file_at (after_all (first programs capacities flows) operations) file)
+
+-- the row that a frame gets at a device: its file's queue is enabled there at this epoch, with this capacity after so
+-- many resizes, and no more of the frame is kept than there is
+pub record IsEnabledRow (t : Table) (device : ℕ) (frame : List ℕ) (row : QueueRow) (keep resizes capacity : ℕ) : Type 0 where
+  pub enabled : (file_at t row.file).attachment ≡ Enabled device
+  pub epoch : (file_at t row.file).epoch ≡ row.epoch
+  pub kept : keep ≤ length frame
+  pub resizes_are : resizes ≡ (file_at t row.file).resizes
+  pub capacity_is : capacity ≡ (file_at t row.file).capacity
+
+abbrev pub RowsAreEnabled : Type 0
+RowsAreEnabled =
+    (t : Table) → IsSound t → (device : ℕ) (frame : List ℕ) (row : QueueRow) (keep resizes capacity : ℕ)
+    → select t device frame ≡ Row row keep resizes capacity → IsEnabledRow t device frame row keep resizes capacity
+
+-- an attachment that isn't refused has an epoch left, and a resize that isn't refused a number
+pub record HaveNumbersLeft (t : Table) (file : ℕ) : Type 0 where
+  pub attached : (device flags : ℕ) → refuse t (op.SetIff file device flags) ≡ None → (file_at t file).epoch < 65535
+  pub enabled :
+      (flags : ℕ) → refuse t (op.SetQueue file flags) ≡ None → is_set flags IFF_ATTACH_QUEUE ≡ true
+      → (file_at t file).epoch < 65535
+  pub resized : (capacity : ℕ) → refuse t (op.Resize file capacity) ≡ None → (file_at t file).resizes < 127
+
+abbrev pub NumbersAreLeft : Type 0
+NumbersAreLeft = (t : Table) (file : ℕ) → HaveNumbersLeft t file
 
 -- a device that exists is persistent, or a file belongs to it
 abbrev pub IsPersistentOrHasFile : Table → ℕ → Device → Type 0

@@ -8,4 +8,3 @@ pub mod Examples
 pub mod Laws
 pub mod Slot
 pub mod State
-pub mod Backed

@@ -1,37 +1,24 @@
 -- This project's own, after Linux's tun devices: which operations are refused. An operation has rules in an order,
 -- and the first that it breaks says why it is refused.
 use Rattle.std.specs.Prelude.{ℕ, ◌==◌, ◌&&◌, ◌||◌, nat_lt, nat_le, Bool, true, not, if◌then◌else◌, List, [], ◌∷◌, length, filter, Option, Some, None, is_some}
-use Rattle.tap_steer.specs.declared.error.TapErr.{TapErr}
-use Rattle.tap_steer.specs.declared.error.TapErr.TheVariants.{EEXIST, EINVAL, EBUSY, E2BIG, EBADFD, ENOTSUP, ENFILE}
-use Rattle.tap_steer.specs.declared.error.Invalid.TheVariants.{Kind, Multi, NotDetached, NoDevice, NotMulti, Detached, NoFlag, HdrSize, Clock}
-use Rattle.tap_steer.specs.declared.error.Busy.TheVariants.{Exclusive, OneQueue, Backed}
-use Rattle.tap_steer.specs.declared.error.TooBig.TheVariants.{Queues, Epochs, Resizes}
+use Rattle.tap_ledger.specs.declared.error.TapErr.{TapErr}
+use Rattle.tap_ledger.specs.declared.error.TapErr.TheVariants.{EEXIST, EINVAL, EBUSY, E2BIG, EBADFD, ENOTSUP, ENFILE}
+use Rattle.tap_ledger.specs.declared.error.Invalid.TheVariants.{Kind, Multi, NotDetached, NoDevice, NotMulti, Detached, NoFlag, HdrSize, Clock}
+use Rattle.tap_ledger.specs.declared.error.Busy.TheVariants.{Exclusive, OneQueue, Backed}
+use Rattle.tap_ledger.specs.declared.error.TooBig.TheVariants.{Queues, Epochs, Resizes}
 use Rattle.tap_steer.specs.declared.files.File.{File}
 use Rattle.tap_ledger.specs.declared.side.Side.{Side}
 use Rattle.tap_ledger.specs.declared.side.Side.TheVariants.{Rx, Tx}
 use Rattle.tap_steer.specs.declared.operation.Op.{Op}
 use Rattle.tap_steer.specs.declared.operation.Op.TheVariants as op
 use Rattle.tap_steer.specs.declared.operation.TheConstants.{IFF_TAP, IFF_MULTI_QUEUE, IFF_TUN_EXCL, IFF_UNSUPPORTED, IFF_ATTACH_QUEUE, IFF_DETACH_QUEUE}
+use Rattle.tap_steer.specs.declared.rules.TheConstants.{LEAST_HEADER_SIZE, MAX_DEVICES, MAX_EPOCH, MAX_RESIZES, MOST_HEADER_SIZE}
 use Rattle.tap_steer.specs.Table.{Table, Device, file_at, device_of, is_disabled, exists, has, at_home, queue_count, is_set}
-
--- the number of an error
-abbrev pub number_of : TapErr → ℕ
-number_of EEXIST = 1
-number_of (EINVAL cause) = 2
-number_of (EBUSY cause) = 3
-number_of (E2BIG cause) = 4
-number_of EBADFD = 5
-number_of ENOTSUP = 6
-number_of ENFILE = 7
+pub use Rattle.tap_ground.specs.Options.{first_that_holds as first_broken}
 
 -- a rule: where the test is true, this is the refusal
 abbrev pub Rule : Type 0
 Rule = Bool × TapErr
-
--- the first rule that is broken
-abbrev pub first_broken : List Rule → Option TapErr
-first_broken [] = None
-first_broken (rule ∷ rules) = if rule.0 then Some rule.1 else first_broken rules
 
 -- ---- what rules ask
 
@@ -41,7 +28,7 @@ has_device t file = is_some (device_of t file)
 
 -- the file was attached as often as it may be
 abbrev pub has_spent_epochs : Table → ℕ → Bool
-has_spent_epochs t file = nat_le 65535 (file_at t file).epoch
+has_spent_epochs t file = nat_le MAX_EPOCH (file_at t file).epoch
 
 -- how many devices exist
 abbrev pub device_count : Table → ℕ
@@ -75,7 +62,7 @@ is_backed file = is_some file.rx || is_some file.tx
 
 -- no header has this size
 abbrev pub is_bad_size : ℕ → Bool
-is_bad_size size = nat_lt size 10 || nat_lt 128 size
+is_bad_size size = nat_lt size LEAST_HEADER_SIZE || nat_lt MOST_HEADER_SIZE size
 
 -- ---- the rules of each operation
 
@@ -89,7 +76,7 @@ set_iff_rules t file device flags =
     ∷ (has t device (differs_in_multi flags), EINVAL Multi)
     ∷ (has t device has_its_one_queue, EBUSY OneQueue)
     ∷ (has t device is_full, E2BIG Queues)
-    ∷ (not (exists t device) && nat_le 16 (device_count t), ENFILE)
+    ∷ (not (exists t device) && nat_le MAX_DEVICES (device_count t), ENFILE)
     ∷ (has_spent_epochs t file, E2BIG Epochs)
     ∷ []
 
@@ -147,7 +134,7 @@ back_rules t file side (Some vhost) =
 abbrev pub resize_rules : Table → ℕ → List Rule
 resize_rules t file =
     (not (has_device t file), EBADFD)
-    ∷ (nat_le 127 (file_at t file).resizes, E2BIG Resizes)
+    ∷ (nat_le MAX_RESIZES (file_at t file).resizes, E2BIG Resizes)
     ∷ []
 
 -- the rules of an operation

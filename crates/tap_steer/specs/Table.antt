@@ -76,6 +76,12 @@ is_disabled Unattached = false
 is_disabled (Enabled device) = false
 is_disabled (Disabled device) = true
 
+-- whether it is enabled
+abbrev pub is_enabled : Attachment → Bool
+is_enabled Unattached = false
+is_enabled (Enabled device) = true
+is_enabled (Disabled device) = false
+
 -- the device of a file
 abbrev pub device_of : Table → ℕ → Option ℕ
 device_of t file = home (file_at t file).attachment

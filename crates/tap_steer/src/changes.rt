@@ -11,7 +11,8 @@ use tap_ledger::Side;
 
 impl State {
     ghost use Rattle.tap_steer.specs.Table.{file_at, is_set};
-    ghost use Rattle.tap_steer.specs.Rules.{refuse, first_broken, set_iff_rules, attach_rules};
+    ghost use Rattle.tap_ground.specs.Options.{first_that_holds as first_broken};
+    ghost use Rattle.tap_steer.specs.Rules.{refuse, set_iff_rules, attach_rules};
     ghost use Rattle.tap_steer.specs.After as word;
     ghost use Rattle.tap_steer.specs.Sound.{IsSound};
     ghost use Rattle.tap_steer.specs.Named.{IsFile, IsNamed};

@@ -33,7 +33,7 @@ pub struct File {
 }
 
 impl Attachment {
-    ghost use Rattle.tap_steer.specs.Table.{home, is_disabled};
+    ghost use Rattle.tap_steer.specs.Table.{home, is_disabled, is_enabled};
 
     /// The device to which the file belongs.
     pub(crate) fn home(self) -> Option<u16>
@@ -50,6 +50,13 @@ impl Attachment {
         ensures { result ≡ is_disabled self }
     {
         matches!(self, Attachment::Disabled(_))
+    }
+
+    /// Whether it is enabled.
+    pub(crate) fn is_enabled(self) -> bool
+        ensures { result ≡ is_enabled self }
+    {
+        matches!(self, Attachment::Enabled(_))
     }
 }
 

@@ -1,8 +1,7 @@
 //! What holds of the table after any lawful operations.
 
-ghost use Rattle.tap_steer.specs.Backed.{BackedHaveDevices};
 ghost use Rattle.tap_steer.specs.Examples.{QueuesComeAndGo, NoQueueIsLeft, FlagsAreRefused, RepliesComeBack, FlowsGo, ProgramsSteerAndCut, ProgramsDrop, DevicesPersist, ResizesEnd};
-ghost use Rattle.tap_steer.specs.Laws.{ReachedIsSound, EpochsNeverFall, DevicesHaveFiles, StaysOverClose, IsFoundAgain, NamesStay};
+ghost use Rattle.tap_steer.specs.Laws.{ReachedIsSound, EpochsNeverFall, EpochsRiseByOne, FilesAreInUse, RowsAreEnabled, NumbersAreLeft, DevicesHaveFiles, StaysOverClose, IsFoundAgain, NamesStay};
 
 /// After lawful operations a file's queue stands in the rows of one device, once and at its own epoch, where it is
 /// enabled, and else nowhere. A device has at most 256 queues, and its flows lead to its rows.
@@ -13,6 +12,27 @@ pub fn reached_is_sound()
 /// Epochs never fall.
 pub fn epochs_never_fall()
     ensures { EpochsNeverFall }
+{}
+
+/// An operation leaves a file's epoch, or enables its queue under the next one.
+pub fn epochs_rise_by_one()
+    ensures { EpochsRiseByOne }
+{}
+
+/// After lawful operations a file with a device has an epoch of at least 1, and a backend has a device.
+pub fn files_are_in_use()
+    ensures { FilesAreInUse }
+{}
+
+/// The row that a frame gets is that of an enabled queue at its own epoch, and no more of the frame is kept than
+/// there is.
+pub fn rows_are_enabled()
+    ensures { RowsAreEnabled }
+{}
+
+/// An attachment that isn't refused has an epoch below 65,535 before it, and a resize fewer than 127 before it.
+pub fn numbers_are_left()
+    ensures { NumbersAreLeft }
 {}
 
 /// A device without files that isn't persistent doesn't exist.
@@ -29,11 +49,6 @@ pub fn persistent_devices_stay()
 /// Files, names and programs stay.
 pub fn names_stay()
     ensures { NamesStay }
-{}
-
-/// After lawful operations a file that is the backend of a ring has a device.
-pub fn backed_have_devices()
-    ensures { BackedHaveDevices }
 {}
 
 /// Worked examples.

@@ -8,7 +8,6 @@
 #![tactic(auto)]
 
 mod changes;
-mod error;
 mod files;
 mod laws;
 mod operation;
@@ -21,17 +20,17 @@ mod steer;
 #[cfg(test)]
 mod tests;
 
-pub use error::{Busy, Invalid, TapErr, TooBig};
 pub use files::{Attachment, File};
 pub use laws::{
-    backed_have_devices, devices_have_files, epochs_never_fall, names_stay,
-    persistent_devices_stay, reached_is_sound, worked_examples,
+    devices_have_files, epochs_never_fall, epochs_rise_by_one, files_are_in_use, names_stay,
+    numbers_are_left, persistent_devices_stay, reached_is_sound, rows_are_enabled, worked_examples,
 };
 pub use operation::{
     IFF_ATTACH_QUEUE, IFF_DETACH_QUEUE, IFF_MULTI_QUEUE, IFF_NO_PI, IFF_TAP, IFF_TUN_EXCL,
     IFF_UNSUPPORTED, IFF_VNET_HDR, Op,
 };
+pub use rules::{LEAST_HEADER_SIZE, MAX_DEVICES, MAX_EPOCH, MAX_RESIZES, MOST_HEADER_SIZE};
 pub use selection::{Select, scaled};
 pub use settings::Settings;
 pub use steer::{NAMES, Steer};
-pub use tap_ledger::Side;
+pub use tap_ledger::{Busy, Invalid, Side, TapErr, TooBig};

@@ -2,23 +2,22 @@
 
 ghost use Rattle.std.specs.Prelude.{◌≡◌, ◌<◌, ◌≤◌, length, None};
 
-use crate::error::{Busy, Invalid, TapErr, TooBig};
 use crate::operation::{
     IFF_ATTACH_QUEUE, IFF_DETACH_QUEUE, IFF_TAP, IFF_TUN_EXCL, IFF_UNSUPPORTED, Op, is_set,
 };
 use crate::state::State;
-use tap_ledger::Side;
+use tap_ledger::{Busy, Invalid, Side, TapErr, TooBig};
 
 /// How many devices there may be.
-const MAX_DEVICES: usize = 16;
+pub const MAX_DEVICES: usize = 16;
 /// How often a file may be attached.
-const MAX_EPOCH: u16 = 65_535;
+pub const MAX_EPOCH: u16 = 65_535;
 /// How often a file may be resized.
-const MAX_RESIZES: u8 = 127;
-/// The sizes that a header may have.
-const LEAST_HEADER_SIZE: u32 = 10;
-
-const MOST_HEADER_SIZE: u32 = 128;
+pub const MAX_RESIZES: u8 = 127;
+/// The least size that a header may have.
+pub const LEAST_HEADER_SIZE: u32 = 10;
+/// The greatest size that a header may have.
+pub const MOST_HEADER_SIZE: u32 = 128;
 
 impl State {
     ghost use Rattle.tap_steer.specs.Table.{exists, at_home};

@@ -3,7 +3,6 @@
 ghost use Rattle.std.specs.Prelude.{◌≡◌, ◌<◌, length, None, IsTrue, IsNone, IfSome, IfOk, All, ◌↔◌};
 ghost use Rattle.std.specs.Option.{option_map};
 
-use crate::error::TapErr;
 use crate::operation::Op;
 use crate::selection::Select;
 use crate::state::State;
@@ -11,6 +10,7 @@ use ebpf_code::Program;
 use std::alloc::{AllocError, Global};
 use std::marker::Model;
 use tap_frame::Shape;
+use tap_ledger::{Side, TapErr};
 
 /// How many names of devices there are.
 pub const NAMES: usize = 64;
@@ -130,6 +130,30 @@ impl Steer {
         ensures { result ≡ chosen.learns self.now file }
     {
         self.state.learns(file)
+    }
+
+    /// Whether a file's queue is enabled.
+    pub fn is_enabled(&self, file: u16) -> bool
+        requires { IsFile self.now file }
+        ensures { result ≡ word.is_enabled (word.file_at self.now file).attachment }
+    {
+        self.state.file(file).attachment.is_enabled()
+    }
+
+    /// How often a file was attached: 0 where it never was.
+    pub fn epoch_of(&self, file: u16) -> u16
+        requires { IsFile self.now file }
+        ensures { result ≡ (word.file_at self.now file).epoch }
+    {
+        self.state.file(file).epoch
+    }
+
+    /// The vhost whose ring has a side of a file as its backend.
+    pub fn backer_of(&self, file: u16, side: Side) -> Option<u16>
+        requires { IsFile self.now file }
+        ensures { result ≡ rule.backer side (word.file_at self.now file) }
+    {
+        self.state.file(file).backer(side)
     }
 
     /// How many frames the ring of a file holds.

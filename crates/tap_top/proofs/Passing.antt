@@ -6,7 +6,7 @@ use Rattle.std.proofs.KnownBytes.{Appends-trans, Consumes-nil, Consumes-trans}
 use Rattle.std.specs.Prelude.{IsErrOf}
 use Rattle.std.specs.Io.KnownBytes.{Appends, Consumes, IsAtEnd}
 use Rattle.scen_words.specs.declared.limits.TheConstants.{MAX_BYTES}
-use Rattle.tap_outside.specs.Ends.{one_more}
+use Rattle.tap_ground.specs.Counts.{one_more}
 use Rattle.tap_top.specs.Course.{ReadFails, ReadsPiece, ReadsWell}
 use Rattle.tap_top.specs.Top.{Source, TakesInput, source_between}
 

@@ -1,7 +1,7 @@
 -- This project's own: the ways that a run of the program can take between its ends, as its inside says them.
 use Rattle.std.specs.Prelude.{◌≡◌, ℕ, ◌<◌, ◌≤◌, true, false, List, ◌++◌, length, Option, Some}
 use Rattle.std.specs.Io.KnownBytes.{Consumes, IsAtEnd}
-use Rattle.tap_outside.specs.Ends.{one_more}
+use Rattle.tap_ground.specs.Counts.{one_more}
 use Rattle.tap_top.specs.Top.{Breaks, IsWanted, Reads, Sink, Source, Stops, TakesToLimit, Writes, reads, reads_input, served}
 use Rattle.tap_words.specs.declared.request.Request.{Request}
 

@@ -1,5 +1,5 @@
 -- This project's own: the scenarios that are run so far: none at all, and runs on one file.
-use Rattle.std.specs.Prelude.{ℕ, Bool, true, false, ◌&&◌, ◌==◌, nat_le, if◌then◌else◌, List, [], ◌∷◌, length, Option, Some, None}
+use Rattle.std.specs.Prelude.{ℕ, Bool, false, ◌&&◌, ◌==◌, nat_le, if◌then◌else◌, List, [], ◌∷◌, length, Option, Some, None}
 use Rattle.std.specs.List.{list_all}
 use Rattle.tap_frame.specs.declared.header.Hdr.{Hdr}
 use Rattle.scen_words.specs.declared.command.Command.{Command}
@@ -10,6 +10,7 @@ use Rattle.scen_text.specs.declared.scenario.Phase.{Phase}
 use Rattle.scen_text.specs.declared.scenario.Scenario.{Scenario}
 use Rattle.scen_text.specs.declared.scenario.Script.{Script}
 use Rattle.scen_words.specs.declared.limits.TheConstants.{MAX_COMMANDS}
+use Rattle.tap_ground.specs.Lists.{is_nil}
 
 -- a run on one file: the places of its ring, the name of its device, and all commands of its one actor
 pub record OneFile : Type 0 where
@@ -73,10 +74,6 @@ with_parts None name commands = None
 -- the run that a scenario is, if it is one
 abbrev pub one_file_of : Scenario → Option OneFile
 one_file_of s = with_parts (capacity_in s.declarations) (name_in s.names) (commands_in s.phases)
-
-abbrev pub is_nil : {A : Type 0} → List A → Bool
-is_nil [] = true
-is_nil (x ∷ xs) = false
 
 -- a scenario without declarations and phases
 abbrev pub is_empty : Scenario → Bool

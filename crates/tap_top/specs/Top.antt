@@ -11,7 +11,7 @@ use Rattle.scen_text.specs.Refused.{refused_fields}
 use Rattle.scen_text.specs.Scenario.{IsRefusal, Stands}
 use Rattle.scen_text.specs.ScenarioText.{scenario_text}
 use Rattle.scen_gen.specs.Generated.{generated}
-use Rattle.tap_outside.specs.Ends.{one_more}
+use Rattle.tap_ground.specs.Counts.{one_more}
 use Rattle.tap_top.specs.Headline.{InOrder, OneFate}
 use Rattle.tap_top.specs.OneFile.{OneFile, one_file_of}
 use Rattle.tap_top.specs.Output.{output_of, run_of}

@@ -2,7 +2,7 @@
 
 ghost use Rattle.std.specs.Prelude.{◌≡◌, ℕ, ◌<◌, ◌≤◌, List, [], length, IfOk, OnOk, IsErrOf};
 ghost use Rattle.std.specs.Io.KnownBytes.{Consumes};
-ghost use Rattle.tap_outside.specs.Ends.{one_more};
+ghost use Rattle.tap_ground.specs.Counts.{one_more};
 ghost use Rattle.tap_top.specs.Course.{ReadFails, ReadsPiece, ReadsWell};
 ghost use Rattle.tap_top.specs.Top.{Breaks, Stops, TakesInput, Writes, sink_between, source_between};
 ghost use Rattle.tap_top.specs.declared.ends.ReadError.TheVariants.{NoMemory, SourceFailed};
@@ -10,16 +10,19 @@ ghost use Rattle.tap_top.specs.declared.ends.ReadError.TheVariants.{NoMemory, So
 use scen_text::MAX_BYTES;
 use std::alloc::{AllocError, Global};
 use tap_outside::{Failed, Sink, SinkErr, Source};
+use thiserror::Error;
 
 /// How many bytes are asked for at once.
 const PIECE: usize = 65_536;
 
 /// Why a source wasn't read to its end.
-#[derive(Clone, Copy, Debug, PartialEq, Eq)]
+#[derive(Clone, Copy, Debug, PartialEq, Eq, Error)]
 pub enum ReadError {
     /// The source failed.
+    #[error("the source failed")]
     SourceFailed,
     /// Memory ran out.
+    #[error("out of memory")]
     NoMemory,
 }
 

@@ -1,6 +1,7 @@
 //! What commands answer.
 
-use crate::causes::{DriveText, TapText, VhostText};
+use crate::causes::{DriveText, VhostText};
+use tap_ledger::TapErr;
 use crate::turn::{ChainText, TurnText};
 use sqlite_items::Items;
 use tap_frame::{BadFrame, Name};
@@ -78,7 +79,7 @@ pub enum Answer {
         place: u64,
     },
     /// `err ..`: the queue table refuses the operation, or the file has no device.
-    Tap(TapText),
+    Tap(TapErr),
     /// `verr ..`: the vhost refuses the command.
     Vhost(VhostText),
     /// `derr ..`: the driver refuses the command.

@@ -11,10 +11,10 @@ mod trace;
 mod turn;
 
 pub use answer::Answer;
-pub use causes::{Busy, DriveText, Invalid, TapText, TooBig, VhostText};
+pub use causes::{DriveText, VhostText};
 pub use kind::Kind;
 pub use tap_frame::{BadFrame, Name};
-pub use tap_ledger::{Cause, Fate, Side};
+pub use tap_ledger::{Busy, Cause, Fate, Invalid, Side, TapErr as TapText, TooBig};
 pub use trace::{
     AnswerLine, FilePart, GuestPart, OpLine, OpText, PhasePart, PlaceLine, PositionList, RingPart,
     StepLine, Trace,

@@ -7,14 +7,16 @@ use Rattle.clap.specs.Words.{Text}
 use Rattle.text_fields.specs.Numbers.{in_range, number_of}
 use Rattle.tap_words.specs.declared.request.Request.{Request}
 use Rattle.tap_words.specs.declared.request.Request.TheVariants.{Check, Plain, Live, Audit, Gen, Upgrade}
-use Rattle.tap_words.specs.Words.{CountFits, CountsFit, Given, alone, asked_by, given, seed_of, when, with_number}
+use Rattle.tap_ground.specs.Options.{only_if as when}
+use Rattle.tap_words.specs.Words.{CountFits, CountsFit, Given, alone, asked_by, given, seed_of, with_number}
 
 choose : (b : Bool) (x y : Option Request) → CountFits x → CountFits y → CountFits (cond b x y)
 choose true x y p q = p
 choose false x y p q = q
 
 when_fits : (b : Bool) (r : Request) → CountFits (Some r) → CountFits (when b r)
-when_fits b r p = choose b (Some r) None p tt
+when_fits true r p = p
+when_fits false r p = tt
 
 plain_fits : (json : Bool) (seed : Option ℕ) → CountFits (option_map (λ n. Plain n json) seed)
 plain_fits json None = tt

@@ -7,6 +7,7 @@ use Rattle.clap.specs.declared.builder.action.ArgAction.TheVariants.{Append, Set
 use Rattle.text_fields.specs.Numbers.{in_range, number_of}
 use Rattle.tap_words.specs.declared.request.Request.{Request}
 use Rattle.tap_words.specs.declared.request.Request.TheVariants.{Check, Plain, Live, Audit, Gen, Upgrade}
+use Rattle.tap_ground.specs.Options.{only_if as when}
 
 -- ---- the command line
 
@@ -64,9 +65,6 @@ given words = if is_faultless (fault_of tapsim words) then Some (given_by (match
 abbrev pub seed_of : Option Text → Option ℕ
 seed_of None = Some 0
 seed_of (Some text) = number_of text
-
-abbrev pub when : Bool → Request → Option Request
-when test request = if test then Some request else None
 
 -- a command word by itself, with the options that it has
 abbrev pub alone : Text → Option Text → Bool → Option Request

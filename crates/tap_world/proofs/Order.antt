@@ -3,7 +3,7 @@ use Rattle.std.proofs.Common.{◌≡◌, ◌⊎◌, ℕ, zero, suc, ◌<◌, ◌
 use Rattle.std.specs.Prelude.{slice_get}
 use Rattle.tap_ledger.specs.declared.fate.Fate.{Fate}
 use Rattle.tap_world.specs.Line.{Entry}
-use Rattle.tap_world.specs.Line.Standing.{Out}
+use Rattle.tap_world.specs.declared.line.Standing.TheVariants.{Out}
 use Rattle.tap_world.specs.Sound.{ComesLast, InThreeParts, is_cut, rank}
 
 some_same : {A : Type 0} (x y : A) → Some x ≡ Some y → x ≡ y

@@ -9,7 +9,7 @@ use Rattle.guest_mem.specs.Memory.{Contents}
 use Rattle.tap_world.specs.declared.event.Found.{Found}
 use Rattle.tap_world.specs.declared.event.Heard.{Heard}
 use Rattle.tap_world.specs.declared.event.Heard.TheVariants as heard
-use Rattle.tap_world.specs.Then.{◌>>=◌, only_if}
+use Rattle.tap_ground.specs.Options.{◌>>=◌, only_if}
 use Rattle.tap_world.specs.ByNumber.{at, with_at, with_nth}
 use Rattle.tap_world.specs.Line.{File, is_empty}
 use Rattle.tap_world.specs.LineSteps.{Change, changed}

@@ -1,6 +1,6 @@
 -- This project's own: a worked run. One file with one place; a frame is sent, another finds the ring full, and a read
 -- takes the first.
-use Rattle.std.specs.Prelude.{◌≡◌, ℕ, List, [], ◌∷◌, codes, Option, Some, None, option_map}
+use Rattle.std.specs.Prelude.{◌≡◌, ℕ, List, [], ◌∷◌, codes, Bool, true, false, Option, Some, None, option_map}
 use Rattle.tap_frame.specs.declared.header.Hdr.{Hdr}
 use Rattle.tap_frame.specs.declared.name.Name.{Name}
 use Rattle.tap_ledger.specs.declared.fate.Cause.TheVariants.{Full}
@@ -9,6 +9,7 @@ use Rattle.scen_words.specs.declared.command.Command.{Command}
 use Rattle.scen_words.specs.declared.command.Command.TheVariants as command
 use Rattle.scen_words.specs.declared.declaration.Declaration.TheVariants as declaration
 use Rattle.scen_text.specs.declared.scenario.Line.{Line}
+use Rattle.scen_text.specs.declared.scenario.Phase.{Phase}
 use Rattle.scen_text.specs.declared.scenario.Scenario.{Scenario}
 use Rattle.tap_trace.specs.declared.answer.Answer.{Answer}
 use Rattle.tap_trace.specs.declared.answer.Answer.TheVariants as answer
@@ -18,8 +19,9 @@ use Rattle.tap_trace.specs.declared.trace.Trace.{Trace}
 use Rattle.tap_world.specs.declared.event.Event.{Event}
 use Rattle.tap_world.specs.declared.event.EventKind.{EventKind}
 use Rattle.tap_world.specs.declared.event.EventKind.TheVariants as event
-use Rattle.tap_world.specs.Setup.{setup_of}
-use Rattle.tap_world.specs.Runs.{opening, run_phases}
+use Rattle.tap_world.specs.Setup.{Setup, setup_of}
+use Rattle.tap_world.specs.Step.{is_allowed}
+use Rattle.tap_world.specs.Runs.{begins, opening, run, run_phases}
 use Rattle.tap_world.specs.Project.{project}
 
 -- from 02:00:00:00:00:01 to 02:00:00:00:00:02
@@ -33,19 +35,26 @@ abbrev pub line : ℕ → Command → Line
 line number c = record { actor = 0; number = number; command = c }
 
 -- `setiff 0 tap0 1102`, two sends of the frame, and `read 0 100`
-abbrev pub scenario : Scenario
-scenario = record {
-  version = 1;
-  declarations = declaration.File 0 1 0 ∷ [];
-  names = codes "tap0" ∷ [];
-  phases = record {
-    actors = 1;
-    scripts = [];
-    lines =
-        line 0 (command.SetIff 0 0 0x1102) ∷ line 1 (command.Send 0 no_header frame)
-        ∷ line 2 (command.Send 0 no_header frame) ∷ line 3 (command.Read 0 100) ∷ [];
-  } ∷ [];
+abbrev pub phase : Phase
+phase = record {
+  actors = 1;
+  scripts = [];
+  lines =
+      line 0 (command.SetIff 0 0 0x1102) ∷ line 1 (command.Send 0 no_header frame)
+      ∷ line 2 (command.Send 0 no_header frame) ∷ line 3 (command.Read 0 100) ∷ [];
 }
+
+-- on a file with so many places
+abbrev pub scenario_with : ℕ → Scenario
+scenario_with capacity = record {
+  version = 1;
+  declarations = declaration.File 0 capacity 0 ∷ [];
+  names = codes "tap0" ∷ [];
+  phases = phase ∷ [];
+}
+
+abbrev pub scenario : Scenario
+scenario = scenario_with 1
 
 abbrev pub at : ℕ → EventKind → Event
 at command kind = record { actor = 0; command = command; kind = kind }
@@ -56,11 +65,11 @@ events = (at 0 event.Look ∷ at 0 event.Reopen ∷ at 0 event.Publish
     ∷ at 2 event.Look ∷ at 2 event.Full
     ∷ at 3 event.Look ∷ at 3 event.Move ∷ at 3 event.Out ∷ []) ∷ []
 
--- the same with a claim where the ring is full
-abbrev pub claiming : List (List Event)
-claiming = (at 0 event.Look ∷ at 0 event.Reopen ∷ at 0 event.Publish
+-- those up to the second send's look, by which it has a row
+abbrev pub looked : List Event
+looked = at 0 event.Look ∷ at 0 event.Reopen ∷ at 0 event.Publish
     ∷ at 1 event.Look ∷ at 1 event.Claim ∷ at 1 event.Ready
-    ∷ at 2 event.Look ∷ at 2 event.Claim ∷ []) ∷ []
+    ∷ at 2 event.Look ∷ []
 
 abbrev pub sent_by : ℕ → Name
 sent_by command = record { actor = 0; turn = command; part = 0 }
@@ -98,6 +107,12 @@ ends_in es =
 abbrev pub RunHasTrace : Type 0
 RunHasTrace = ends_in events ≡ Some (trace_of (sent_by 1))
 
--- no frame gets a place of a full ring
+-- whether the second send may claim a place then, where the ring has so many; none where the events aren't allowed
+abbrev pub may_claim : Setup → Option Bool
+may_claim s =
+    option_map (λ w. is_allowed s w (at 2 event.Claim)) (run s looked (begins 0 phase (opening s)))
+
+-- no frame gets a place of a full ring, and it gets one where the ring has a place more
 abbrev pub NoClaimWhenFull : Type 0
-NoClaimWhenFull = ends_in claiming ≡ None
+NoClaimWhenFull =
+    (may_claim (setup_of (scenario_with 1)) ≡ Some false) × (may_claim (setup_of (scenario_with 2)) ≡ Some true)

@@ -1,5 +1,5 @@
 -- This project's own: guests, and the vhosts over their memory.
-use Rattle.std.specs.Prelude.{ℕ, ◌==◌, ◌||◌, not, nat_lt, Bool, true, if◌then◌else◌, List, [], Option, Some, None, is_none}
+use Rattle.std.specs.Prelude.{ℕ, ◌==◌, ◌||◌, not, nat_lt, Bool, true, if◌then◌else◌, List, [], Option, Some, None, is_none, option_map}
 use Rattle.std.specs.Option.{option_map_or}
 use Rattle.guest_mem.specs.Memory.{Contents}
 use Rattle.guest_mem.specs.Regions.{zeroed}
@@ -9,6 +9,8 @@ use Rattle.vhost_dev.specs.declared.error.VhostErr.{VhostErr}
 use Rattle.vhost_dev.specs.declared.error.VhostErr.TheVariants as err
 use Rattle.vhost_dev.specs.Settings.{Settings, first_settings, ring_at, with_ring}
 use Rattle.vring_drive.specs.Books.{Books}
+use Rattle.tap_trace.specs.declared.answer.Answer.{Answer}
+use Rattle.tap_trace.specs.declared.answer.Answer.TheVariants as answer
 use Rattle.tap_trace.specs.declared.causes.VhostText.{VhostText}
 use Rattle.tap_trace.specs.declared.causes.VhostText.TheVariants as text
 use Rattle.tap_trace.specs.declared.trace.StepLine.{StepLine}
@@ -71,12 +73,16 @@ is_free_for actor ring v = not (is_ring ring) || option_map_or (λ a. a == actor
 abbrev pub is_free : ℕ → Vhost → Bool
 is_free ring v = is_none (turn_of ring v)
 
--- the words in which a trace tells a vhost's refusals; want of memory is none of them
-abbrev pub vhost_text : VhostErr → VhostText
-vhost_text err.EINVAL = text.EINVAL
-vhost_text err.EBUSY = text.EBUSY
-vhost_text err.EFAULT = text.EFAULT
-vhost_text err.ENOBUFS = text.ENOBUFS
-vhost_text (err.EHDR want have) = text.EHDR want have
-vhost_text err.ENOTSUP = text.ENOTSUP
-vhost_text err.NoMemory = text.EINVAL
+-- the words in which a trace tells a vhost's refusals; want of memory has none
+abbrev pub vhost_text : VhostErr → Option VhostText
+vhost_text err.EINVAL = Some text.EINVAL
+vhost_text err.EBUSY = Some text.EBUSY
+vhost_text err.EFAULT = Some text.EFAULT
+vhost_text err.ENOBUFS = Some text.ENOBUFS
+vhost_text (err.EHDR want have) = Some (text.EHDR want have)
+vhost_text err.ENOTSUP = Some text.ENOTSUP
+vhost_text err.NoMemory = None
+
+-- the answer that tells them
+abbrev pub vhost_answer : VhostErr → Option Answer
+vhost_answer e = option_map (λ x. answer.Vhost x) (vhost_text e)

@@ -11,13 +11,13 @@ use Rattle.tap_world.specs.declared.event.Event.{Event}
 use Rattle.tap_world.specs.Frames.{FrameText, bad_in, text_in}
 use Rattle.tap_world.specs.Setup.{Setup}
 use Rattle.tap_world.specs.Line.{Entry}
-use Rattle.tap_world.specs.Line.Standing.{Out}
+use Rattle.tap_world.specs.declared.line.Standing.TheVariants.{Out}
 use Rattle.tap_world.specs.World.{World}
 use Rattle.tap_world.specs.Runs.{IsOrder}
 use Rattle.tap_world.specs.Sound.{InThreeParts, IsSound, is_cut, rank}
 use Rattle.tap_world.specs.Stands.{times}
 
--- A scenario has one order for each seed: its events, and the world that it ends in.
+-- A scenario has at most one order for each seed: its events, and the world that it ends in.
 abbrev pub OneOrder : Type 0
 OneOrder =
     (s : Scenario) (seed : ℕ) (es ds : List (List Event)) (w v : World)

@@ -1,4 +1,3 @@
-pub mod Then
 pub mod ByNumber
 pub mod Frames
 pub mod Setup
@@ -8,7 +7,6 @@ pub mod Guests
 pub mod World
 pub mod Effect
 pub mod Stands
-pub mod Causes
 pub mod StepTable
 pub mod StepRing
 pub mod StepControl
@@ -26,5 +24,7 @@ pub mod SoundActors
 pub mod SoundTable
 pub mod SoundNames
 pub mod Sound
+pub mod Waiting
+pub mod Steady
 pub mod Laws
 pub mod Examples

@@ -6,25 +6,13 @@ use Rattle.tap_frame.specs.declared.name.Name.{Name}
 use Rattle.tap_ledger.specs.declared.fate.Fate.{Fate}
 use Rattle.tap_ledger.specs.declared.fate.Fate.TheVariants.{Waiting, Discarded}
 use Rattle.tap_ledger.specs.declared.fate.Cause.TheVariants as cause
-use Rattle.tap_world.specs.Then.{only_if}
+use Rattle.tap_world.specs.declared.line.Standing.TheVariants.{Batched, Claimed, Cut, Out, Ready}
+use Rattle.tap_ground.specs.Options.{only_if}
+
+pub use Rattle.tap_world.specs.declared.line.Entry.{Entry}
+pub use Rattle.tap_world.specs.declared.line.Standing.{Standing}
 
 -- ---- the line
-
--- Where a frame stands: in the ring, at a place that an actor has claimed and not yet put, or put; in the batch; out of
--- the line, with its fate; or cut by a resize.
-pub data Standing : Type 0 where
-  Claimed : ℕ → Standing
-  Ready : Standing
-  Batched : Standing
-  Out : Fate → Standing
-  Cut : Standing
-
--- a frame of the line: its name, the epoch of its place, its Ethernet bytes, and where it stands
-pub record Entry : Type 0 where
-  pub name : Name
-  pub epoch : ℕ
-  pub len : ℕ
-  pub stands : Standing
 
 -- A file: the place of the line's first entry, the capacity of its ring and how often it was resized, the line, the
 -- gate with its epoch, the worker that owns it, and the vhost that has its front frame in hand.
@@ -93,7 +81,7 @@ last_that test (e ∷ es) = or_here (test e.stands) (last_that test es)
 abbrev pub claimed : File → ℕ
 claimed f = f.first + length f.line
 
--- how many places are free again: of entries that are out, in the batch, or cut
+-- the first place, and as many more as are free again: those of entries that are out, in the batch, or cut
 abbrev pub freed : File → ℕ
 freed f = f.first + count (λ s. not (in_ring s)) f.line
 
@@ -101,7 +89,7 @@ freed f = f.first + count (λ s. not (in_ring s)) f.line
 abbrev pub front_place : File → ℕ
 front_place f = option_map_or (λ i. f.first + i) (first_that in_ring f.line) (claimed f)
 
--- the ring's front, where it is ready
+-- an entry's place in the list, where it is ready
 abbrev pub entry_ready : Option Entry → ℕ → Option ℕ
 entry_ready e i = only_if (option_map_or (λ (x : Entry). is_ready x.stands) e false) i
 

@@ -3,9 +3,9 @@ use Rattle.std.specs.Prelude.{ℕ, zero, suc, ◌+◌, ◌-◌, ◌==◌, ◌&&�
 use Rattle.std.specs.Option.{option_map_or}
 use Rattle.tap_frame.specs.declared.name.Name.{Name}
 use Rattle.tap_ledger.specs.declared.fate.Fate.{Fate}
-use Rattle.tap_world.specs.Then.{◌>>=◌, only_if}
+use Rattle.tap_ground.specs.Options.{◌>>=◌, only_if}
 use Rattle.tap_world.specs.Line.{Entry, File, Standing, count, entry_ready, first_that, has_batch, has_claim, in_batch, in_ring, is_empty, is_full, is_gone, is_over, is_spent, last_that}
-use Rattle.tap_world.specs.Line.Standing.{Batched, Claimed, Cut, Out, Ready}
+use Rattle.tap_world.specs.declared.line.Standing.TheVariants.{Batched, Claimed, Cut, Out, Ready}
 
 -- the changes of a file
 pub data Change : Type 0 where

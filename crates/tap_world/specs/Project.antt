@@ -1,10 +1,8 @@
 -- This project's own: the trace of a run, read off the world that it ends in.
-use Rattle.std.specs.Prelude.{ℕ, zero, suc, ◌+◌, ◌==◌, ◌&&◌, List, [], ◌∷◌, ◌++◌, map, filter, flat_map, take, drop, slice_index_or}
-use Rattle.std.specs.Option.{option_map_or}
+use Rattle.std.specs.Prelude.{ℕ, zero, suc, ◌+◌, ◌==◌, ◌&&◌, List, [], ◌∷◌, ◌++◌, map, filter, flat_map, take, drop, slice_index_or, Option, option_map, option_to_list}
 use Rattle.tap_steer.specs.declared.operation.Op.{Op}
 use Rattle.tap_steer.specs.declared.operation.Op.TheVariants as op
 use Rattle.scen_words.specs.declared.command.Command.{Command}
-use Rattle.scen_words.specs.declared.command.Command.TheVariants as command
 use Rattle.scen_text.specs.declared.scenario.Line.{Line}
 use Rattle.scen_text.specs.declared.scenario.Phase.{Phase}
 use Rattle.tap_trace.specs.declared.trace.AnswerLine.{AnswerLine}
@@ -35,20 +33,23 @@ words_of s c (op.Back file side vhost) = text.Back file side vhost
 words_of s c other = text.Words c
 
 -- the command that published it
-abbrev pub command_of : Setup → Published → Command
-command_of s p = option_map_or (λ (l : Line). l.command) (line_of s p.command) (command.Tick 0)
+abbrev pub command_of : Setup → Published → Option Command
+command_of s p = option_map (λ (l : Line). l.command) (line_of s p.command)
 
 -- the operations behind their versions, from this version on
 abbrev pub with_versions : ℕ → List Published → List (ℕ × Published)
 with_versions version [] = []
 with_versions version (p ∷ ps) = (version, p) ∷ with_versions (version + 1) ps
 
-abbrev pub op_line : Setup → ℕ × Published → OpLine
-op_line s v = record { version = v.0; command = v.1.command; text = words_of s (command_of s v.1) v.1.op }
+-- an operation of no command has no line
+abbrev pub op_line : Setup → ℕ × Published → Option OpLine
+op_line s v =
+    option_map (λ c. record { version = v.0; command = v.1.command; text = words_of s c v.1.op }) (command_of s v.1)
 
 -- those of a phase, by version
 abbrev pub op_lines : Setup → ℕ → List Published → List OpLine
-op_lines s phase ops = map (op_line s) (filter (λ v. v.1.phase == phase) (with_versions 1 ops))
+op_lines s phase ops =
+    flat_map (λ v. option_to_list (op_line s v)) (filter (λ v. v.1.phase == phase) (with_versions 1 ops))
 
 -- ---- answers
 

@@ -6,7 +6,7 @@ use Rattle.scen_text.specs.declared.scenario.Phase.{Phase}
 use Rattle.scen_text.specs.declared.scenario.Scenario.{Scenario}
 use Rattle.tap_world.specs.declared.event.Event.{Event}
 use Rattle.tap_world.specs.declared.event.Heard.{Heard}
-use Rattle.tap_world.specs.Then.{◌>>=◌}
+use Rattle.tap_ground.specs.Options.{◌>>=◌}
 use Rattle.tap_world.specs.Setup.{Declared, Numbered, Setup, script_in, setup_of}
 use Rattle.tap_world.specs.Line.{File}
 use Rattle.tap_world.specs.Guests.{new_guest, new_vhost}

@@ -15,7 +15,7 @@ use Rattle.tap_world.specs.Line.{File, has_batch, is_full, is_gone, is_over, is_
 use Rattle.tap_world.specs.LineSteps.{ready_front}
 use Rattle.tap_world.specs.World.{Doing, World}
 use Rattle.tap_world.specs.World.Doing.{Backed, Backs, Begun, Changes, Disowned, Given, Hosts, Learns, Opened, Opens, Owns, Placed, Purges, Reads, Receives, Released, Resizes, Routed, Shrinks, Teaches, Transmits, Unbacked, Withdrawn, Withdraws}
-use Rattle.tap_world.specs.StepControl.{vhost_of}
+use Rattle.tap_world.specs.StepControl.{driven_vhost}
 use Rattle.tap_world.specs.StepTurns.{is_off}
 
 -- a send with a row: the first of Gone, Spent, Full and Claim whose condition holds
@@ -91,7 +91,7 @@ first_kind w (command.RxTurn vhost) = turn_first w vhost 0
 first_kind w (command.TxTurn vhost) = turn_first w vhost 1
 first_kind w (command.Poke guest addr bytes) = event.Poke
 first_kind w (command.Peek guest addr len) = event.Peek
-first_kind w c = if is_some (vhost_of c) then event.Drive else event.Look
+first_kind w c = if is_some (driven_vhost c) then event.Drive else event.Look
 
 abbrev pub next_kind : World → Doing → Command → Option EventKind
 next_kind w Begun c = Some (first_kind w c)

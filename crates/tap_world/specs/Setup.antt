@@ -1,19 +1,21 @@
 -- This project's own: what a scenario lays down for good.
-use Rattle.std.specs.Prelude.{ℕ, ◌+◌, ◌==◌, if◌then◌else◌, List, [], ◌∷◌, ◌++◌, map, filter, fold, replicate, flat_map, slice_get, slice_set, take, Option, Some, None, unwrap_or, option_map}
+use Rattle.std.specs.Prelude.{ℕ, ◌+◌, ◌<◌, ◌==◌, if◌then◌else◌, List, [], ◌∷◌, ◌++◌, map, filter, fold, replicate, flat_map, length, min, slice_get, slice_set, take, Option, Some, None, IfSome, IsSome, unwrap_or, option_map}
 use Rattle.std.specs.Option.{option_map_or}
 use Rattle.guest_mem.specs.declared.region.Region.{Region}
 use Rattle.tap_frame.specs.declared.name.Name.{Name}
+use Rattle.tap_frame.specs.Frame.{FrameValue}
 use Rattle.tap_steer.specs.declared.operation.Op.{Op}
 use Rattle.tap_steer.specs.declared.operation.Op.TheVariants as op
 use Rattle.tap_steer.specs.Table.{Table, first}
 use Rattle.scen_words.specs.declared.command.Command.{Command}
 use Rattle.scen_words.specs.declared.command.Command.TheVariants as command
+use Rattle.scen_words.specs.Commands.{file_of, guest_of, program_of, vhost_of}
 use Rattle.scen_words.specs.declared.declaration.Declaration.{Declaration}
 use Rattle.scen_words.specs.declared.declaration.Declaration.TheVariants as declaration
 use Rattle.scen_text.specs.declared.scenario.Line.{Line}
 use Rattle.scen_text.specs.declared.scenario.Phase.{Phase}
 use Rattle.scen_text.specs.declared.scenario.Scenario.{Scenario}
-use Rattle.tap_world.specs.Then.{◌>>=◌}
+use Rattle.tap_ground.specs.Options.{◌>>=◌}
 use Rattle.tap_world.specs.ByNumber.{at, put_at}
 use Rattle.tap_world.specs.Frames.{FrameText, frame_in, sent_bytes, sent_front}
 
@@ -107,6 +109,21 @@ op_of s (command.Tick now) = Some (op.Tick now)
 op_of s (command.Resize file capacity) = Some (op.Resize file capacity)
 op_of s other = None
 
+-- the name that a command names, by its number
+abbrev pub device_in : Command → Option ℕ
+device_in (command.SetIff file device flags) = Some device
+device_in (command.Send device hdr bytes) = Some device
+device_in other = None
+
+-- What a command names is there: its file, guest and vhost are declared, its program has a place among the programs, and
+-- the name is one of the scenario's.
+pub record NamesDeclared (s : Setup) (c : Command) : Type 0 where
+  pub file : IfSome (file_of c) (λ file. IsSome (at s.files file))
+  pub guest : IfSome (guest_of c) (λ guest. IsSome (at s.guests guest))
+  pub vhost : IfSome (vhost_of c) (λ vhost. IsSome (at s.vhosts vhost))
+  pub program : IfSome (program_of c) (λ program. place_among program s.programs < length s.programs)
+  pub device : IfSome (device_in c) (λ device. device < length s.names)
+
 -- ---- frames
 
 -- the frame that a command sends
@@ -114,9 +131,19 @@ abbrev pub sent_by : Command → Option FrameText
 sent_by (command.Send name hdr bytes) = Some (frame_in (sent_front hdr) (sent_bytes hdr bytes))
 sent_by other = None
 
--- the frame of a name, as it was sent, with so many of its bytes kept
-abbrev pub frame_of : Setup → Name → ℕ → Option FrameText
-frame_of s name len = do
+-- the frame of a name, as it was sent
+abbrev pub frame_sent : Setup → Name → Option FrameText
+frame_sent s name = do
   l ← line_of s name.turn
-  f ← sent_by l.command
-  Some (record f { ether = take len f.ether })
+  sent_by l.command
+
+-- what a read gets of it: so many of its bytes
+abbrev pub frame_of : Setup → Name → ℕ → Option FrameText
+frame_of s name len = option_map (λ (f : FrameText). record f { ether = take len f.ether }) (frame_sent s name)
+
+-- what a worker gets: all bytes that it was sent with, and the mark behind those that are kept
+abbrev pub kept_frame : Setup → Name → ℕ → Option FrameValue
+kept_frame s name len =
+    option_map
+    (λ (f : FrameText). record { name = name; hdr = f.hdr; made = f.ether; mark = min len (length f.ether) })
+    (frame_sent s name)

@@ -6,17 +6,16 @@ use Rattle.tap_frame.specs.declared.name.Name.{Name}
 use Rattle.tap_frame.specs.Frame.{FrameValue}
 use Rattle.tap_ledger.specs.declared.fate.Fate.TheVariants as fate
 use Rattle.tap_steer.specs.Table.{Table, file_at}
-use Rattle.vring_turns.specs.declared.stage.RxStage.{RxStage}
-use Rattle.vring_turns.specs.declared.stage.RxStage.TheVariants as rx
-use Rattle.tap_world.specs.Then.{◌>>=◌}
+use Rattle.vring_turns.specs.Stage.{has_in_hand}
+use Rattle.tap_ground.specs.Options.{◌>>=◌}
 use Rattle.tap_world.specs.ByNumber.{at}
 use Rattle.tap_world.specs.Guests.{Vhost}
 use Rattle.tap_world.specs.Setup.{Setup}
 use Rattle.tap_world.specs.Line.{Entry, File, Standing, claimed, count, first_that, freed, in_batch, is_empty, is_kept}
-use Rattle.tap_world.specs.Line.Standing.{Batched, Claimed, Cut, Out, Ready}
+use Rattle.tap_world.specs.declared.line.Standing.TheVariants.{Batched, Claimed, Cut, Out, Ready}
 use Rattle.tap_world.specs.World.{Actor, Doing, World, current, newest, table}
 use Rattle.tap_world.specs.Stands.{same_name}
-use Rattle.tap_world.specs.World.Doing.{Backed, Backs, Changes, Disowned, Opened, Opens, Owns, Placed, Purges, Receives, Released, Resizes, Shrinks, Unbacked, Withdrawn, Withdraws}
+use Rattle.tap_world.specs.World.Doing.{Backed, Backs, Begun, Changes, Disowned, Given, Hosts, Learns, Opened, Opens, Owns, Placed, Purges, Reads, Receives, Released, Resizes, Routed, Shrinks, Teaches, Transmits, Unbacked, Withdrawn, Withdraws}
 use Rattle.tap_world.specs.SoundActors.{CanBe}
 use Rattle.tap_world.specs.SoundNames.{NamesStandOnce}
 use Rattle.tap_world.specs.SoundRings.{HasRings, IsActor, IsServed, TurnsAreHeld, is_about}
@@ -61,12 +60,13 @@ abbrev pub has_left : Standing → Bool
 has_left (Out fate.Waiting) = false
 has_left other = true
 
--- the capacity that the table has, which is the one before a resize that isn't published yet
-abbrev pub capacity_before : ℕ → Table → ℕ
-capacity_before file t = (file_at t file).capacity
+-- the capacity that a file has in the table: between a resize and its publication, the one before it
+abbrev pub table_capacity : ℕ → Table → ℕ
+table_capacity file t = (file_at t file).capacity
 
--- An entry that is out has a fate. The batch has at most 64. Claimed - freed is at most the capacity, or, between a
--- resize and its publication, at most the greater of this one and the one before. Claimed is at most 2 ^ 40 - 1.
+-- Those that aren't cut are out, in the batch, or in the ring, in this order. An entry that is out has a fate. The batch
+-- has at most 64. Claimed - freed is at most the capacity, or, between a resize and its publication, at most the greater
+-- of this one and the table's. Claimed is at most 2 ^ 40 - 1.
 pub record HasRoom (before : ℕ) (f : File) : Type 0 where
   pub parts : InThreeParts f.line
   pub fates : AllByRecursion (λ (e : Entry). has_left e.stands ≡ true) f.line
@@ -107,14 +107,6 @@ IsEmptyWhenShut w file f =
     f.shut ≡ true → (is_empty f ≡ true) ⊎ (list_any (λ (a : Actor). is_purging file a.doing) w.actors ≡ true)
 
 -- ---- 7: a frame in hand
-
--- a receive turn has a frame in hand: from the step that takes it until it is out or put back
-abbrev pub has_in_hand : RxStage → Bool
-has_in_hand rx.Begin = false
-has_in_hand rx.Hand = false
-has_in_hand (rx.Publish way) = false
-has_in_hand (rx.Ended way) = false
-has_in_hand stage = true
 
 -- the frame in hand has this name
 abbrev pub holds_name : Name → Option FrameValue → Bool
@@ -167,7 +159,17 @@ holds (Owns file version) = true
 holds (Unbacked file) = true
 holds (Disowned file) = true
 holds (Released file) = true
-holds doing = false
+holds Begun = false
+holds (Routed file epoch len) = false
+holds (Placed file place epoch len) = false
+holds (Reads file room front) = false
+holds (Hosts file ether learns) = false
+holds (Learns file ether) = false
+holds (Backs (Some refusal)) = false
+holds (Receives file t) = false
+holds (Transmits file t chains) = false
+holds (Given file t chains frame) = false
+holds (Teaches file t chains frame) = false
 
 -- The writer is held exactly by the command under way that holds it.
 abbrev pub WriterIsHeld : World → ℕ → Actor → Type 0
@@ -177,7 +179,7 @@ WriterIsHeld w actor a = holds a.doing ≡ option_map_or (λ other. other == act
 
 pub record IsSound (s : Setup) (w : World) : Type 0 where
   pub names : NamesStandOnce w
-  pub room : EachFile w (λ file f. HasRoom (capacity_before file (table s w)) f)
+  pub room : EachFile w (λ file f. HasRoom (table_capacity file (table s w)) f)
   pub claims : EachFile w (ClaimIsHeld w)
   pub epochs : EachFile w (λ file f. HasEpochs f)
   pub shut : EachFile w (IsEmptyWhenShut w)

@@ -5,7 +5,7 @@ use Rattle.tap_steer.specs.declared.operation.TheConstants.{IFF_ATTACH_QUEUE}
 use Rattle.tap_steer.specs.Table.{is_set}
 use Rattle.scen_words.specs.declared.command.Command.{Command}
 use Rattle.scen_words.specs.declared.command.Command.TheVariants as command
-use Rattle.tap_trace.specs.declared.causes.TapText.{TapText}
+use Rattle.tap_ledger.specs.declared.error.TapErr.{TapErr as TapText}
 use Rattle.tap_world.specs.Guests.{is_ring}
 use Rattle.tap_world.specs.Setup.{Numbered}
 use Rattle.tap_world.specs.World.{Actor, Doing, current}

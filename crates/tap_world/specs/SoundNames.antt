@@ -3,15 +3,14 @@ use Rattle.std.specs.Prelude.{◌≡◌, ◌⊎◌, ℕ, ◌≤◌, if◌then◌
 use Rattle.std.specs.List.{AllByRecursion}
 use Rattle.tap_frame.specs.declared.name.Name.{Name}
 use Rattle.tap_frame.specs.Frame.{FrameValue}
-use Rattle.vring_turns.specs.declared.stage.TxStage.{TxStage}
-use Rattle.vring_turns.specs.declared.stage.TxStage.TheVariants.{Give}
+use Rattle.vring_turns.specs.Stage.{is_giving}
 use Rattle.tap_trace.specs.declared.answer.Answer.{Answer}
 use Rattle.tap_trace.specs.declared.answer.Answer.TheVariants as answer
 use Rattle.tap_trace.specs.declared.turn.ChainText.{ChainText}
 use Rattle.tap_trace.specs.declared.turn.ChainText.TheVariants as chain
 use Rattle.tap_world.specs.Setup.{Numbered}
 use Rattle.tap_world.specs.World.{Actor, Doing, Said, World, current, name_of}
-use Rattle.tap_world.specs.World.Doing.{Given, Hosts, Learns, Placed, Routed, Teaches, Transmits}
+use Rattle.tap_world.specs.World.Doing.{Backed, Backs, Begun, Changes, Disowned, Given, Hosts, Learns, Opened, Opens, Owns, Placed, Purges, Reads, Receives, Released, Resizes, Routed, Shrinks, Teaches, Transmits, Unbacked, Withdrawn, Withdraws}
 use Rattle.tap_world.specs.Stands.{times}
 
 -- ---- accepted names
@@ -39,14 +38,26 @@ accepted_by actor n (Learns file ether) = name_of actor n ∷ []
 accepted_by actor n (Transmits file t chains) = got_in chains
 accepted_by actor n (Given file t chains frame) = got_in chains
 accepted_by actor n (Teaches file t chains frame) = got_in chains
-accepted_by actor n doing = []
+accepted_by actor n Begun = []
+accepted_by actor n Changes = []
+accepted_by actor n (Opens file) = []
+accepted_by actor n (Opened file) = []
+accepted_by actor n (Withdraws file) = []
+accepted_by actor n (Withdrawn file version) = []
+accepted_by actor n (Purges file version) = []
+accepted_by actor n (Resizes file capacity) = []
+accepted_by actor n (Shrinks file places cuts) = []
+accepted_by actor n (Reads file room front) = []
+accepted_by actor n (Backs refusal) = []
+accepted_by actor n (Backed file) = []
+accepted_by actor n (Owns file version) = []
+accepted_by actor n (Unbacked file) = []
+accepted_by actor n (Disowned file) = []
+accepted_by actor n (Released file) = []
+accepted_by actor n (Receives file t) = []
 
--- a transmit turn gives a frame to the host next
-abbrev pub is_giving : TxStage → Bool
-is_giving Give = true
-is_giving stage = false
-
--- the one that is accepted, and is still to be dropped, placed or given to the host
+-- the one that is accepted, and is still to be dropped, placed or given to the host: a send's with a row, a write's, and
+-- the one that a transmit turn is to give
 abbrev pub awaited : ℕ → ℕ → Doing → Option Name
 awaited actor n (Routed file epoch len) = Some (name_of actor n)
 awaited actor n (Hosts file ether learns) = Some (name_of actor n)

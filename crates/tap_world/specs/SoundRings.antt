@@ -6,22 +6,23 @@ use Rattle.scen_words.specs.declared.command.Command.TheVariants as command
 use Rattle.vhost_queue.specs.Positions.{IsIdle}
 use Rattle.vhost_queue.specs.Queue.{IsGood, IsQueueSize}
 use Rattle.vhost_dev.specs.Settings.{RingSettings, ring_at}
+use Rattle.vhost_dev.specs.Device.{BeginAtZero}
 use Rattle.vhost_dev.specs.Lists.{AreInOrder}
 use Rattle.vring_turns.specs.Standing.{RxStands, TxStands}
-use Rattle.tap_world.specs.Then.{only_if}
+use Rattle.tap_ground.specs.Options.{only_if}
 use Rattle.tap_world.specs.ByNumber.{at}
 use Rattle.tap_world.specs.Guests.{Guest, Vhost, is_ring, turn_of}
 use Rattle.tap_world.specs.Setup.{Numbered}
 use Rattle.tap_world.specs.World.{Actor, Doing, World, current}
-use Rattle.tap_world.specs.World.Doing.{Backed, Backs, Disowned, Given, Owns, Receives, Released, Teaches, Transmits, Unbacked}
+use Rattle.tap_world.specs.World.Doing.{Backed, Backs, Begun, Changes, Disowned, Given, Hosts, Learns, Opened, Opens, Owns, Placed, Purges, Reads, Receives, Released, Resizes, Routed, Shrinks, Teaches, Transmits, Unbacked, Withdrawn, Withdraws}
 
 -- ---- 8: rings
 
--- The lists of positions are in order, and begin with the first chain that was published; the ring has a queue size;
--- with a backend it lies in its guest.
+-- The lists of positions are in order, and the first of them has base 0 and begins with the first chain that was
+-- published; the ring has a queue size; with a backend it lies in its guest.
 pub record IsRing (g : Guest) (r : RingSettings) : Type 0 where
   pub lists : AreInOrder r.lists r.queue.positions
-  pub begun : option_map_or (λ (l : ℕ × ℕ). l.1 == 0) (slice_get r.lists 0) false ≡ true
+  pub begun : BeginAtZero r.lists
   pub size : IsQueueSize r.queue.layout.num
   pub good : is_some r.file ≡ true → IsGood r.queue g.memory
 
@@ -34,7 +35,26 @@ serves (Receives file t) = true
 serves (Transmits file t chains) = true
 serves (Given file t chains frame) = true
 serves (Teaches file t chains frame) = true
-serves doing = false
+serves Begun = false
+serves Changes = false
+serves (Opens file) = false
+serves (Opened file) = false
+serves (Withdraws file) = false
+serves (Withdrawn file version) = false
+serves (Purges file version) = false
+serves (Resizes file capacity) = false
+serves (Shrinks file places cuts) = false
+serves (Routed file epoch len) = false
+serves (Placed file place epoch len) = false
+serves (Reads file room front) = false
+serves (Hosts file ether learns) = false
+serves (Learns file ether) = false
+serves (Backs refusal) = false
+serves (Backed file) = false
+serves (Owns file version) = false
+serves (Unbacked file) = false
+serves (Disowned file) = false
+serves (Released file) = false
 
 -- the vhost and the ring of a turn or a backend
 abbrev pub ring_in : Command → Option (ℕ × ℕ)
@@ -55,7 +75,26 @@ StandsWith (Receives file t) v = RxStands t v.settings.rx.queue
 StandsWith (Transmits file t chains) v = TxStands t v.settings.tx.queue
 StandsWith (Given file t chains frame) v = TxStands t v.settings.tx.queue
 StandsWith (Teaches file t chains frame) v = TxStands t v.settings.tx.queue
-StandsWith doing v = Unit {0}
+StandsWith Begun v = Unit {0}
+StandsWith Changes v = Unit {0}
+StandsWith (Opens file) v = Unit {0}
+StandsWith (Opened file) v = Unit {0}
+StandsWith (Withdraws file) v = Unit {0}
+StandsWith (Withdrawn file version) v = Unit {0}
+StandsWith (Purges file version) v = Unit {0}
+StandsWith (Resizes file capacity) v = Unit {0}
+StandsWith (Shrinks file places cuts) v = Unit {0}
+StandsWith (Routed file epoch len) v = Unit {0}
+StandsWith (Placed file place epoch len) v = Unit {0}
+StandsWith (Reads file room front) v = Unit {0}
+StandsWith (Hosts file ether learns) v = Unit {0}
+StandsWith (Learns file ether) v = Unit {0}
+StandsWith (Backs refusal) v = Unit {0}
+StandsWith (Backed file) v = Unit {0}
+StandsWith (Owns file version) v = Unit {0}
+StandsWith (Unbacked file) v = Unit {0}
+StandsWith (Disowned file) v = Unit {0}
+StandsWith (Released file) v = Unit {0}
 
 -- this actor's command serves the ring
 abbrev pub Serves : ℕ → ℕ → Actor → Type 0
@@ -82,7 +121,25 @@ holds_turn (Owns file version) = true
 holds_turn (Unbacked file) = true
 holds_turn (Disowned file) = true
 holds_turn (Released file) = true
-holds_turn doing = serves doing
+holds_turn (Receives file t) = true
+holds_turn (Transmits file t chains) = true
+holds_turn (Given file t chains frame) = true
+holds_turn (Teaches file t chains frame) = true
+holds_turn (Backs (Some refusal)) = false
+holds_turn Begun = false
+holds_turn Changes = false
+holds_turn (Opens file) = false
+holds_turn (Opened file) = false
+holds_turn (Withdraws file) = false
+holds_turn (Withdrawn file version) = false
+holds_turn (Purges file version) = false
+holds_turn (Resizes file capacity) = false
+holds_turn (Shrinks file places cuts) = false
+holds_turn (Routed file epoch len) = false
+holds_turn (Placed file place epoch len) = false
+holds_turn (Reads file room front) = false
+holds_turn (Hosts file ether learns) = false
+holds_turn (Learns file ether) = false
 
 -- A ring's turn is held exactly by the command under way that holds it.
 abbrev pub TurnsAreHeld : World → ℕ → Vhost → Type 0

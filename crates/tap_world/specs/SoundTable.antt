@@ -9,7 +9,7 @@ use Rattle.tap_steer.specs.Rules.{backer}
 use Rattle.vhost_dev.specs.Settings.{RingSettings, Settings}
 use Rattle.scen_words.specs.declared.command.Command.{Command}
 use Rattle.scen_words.specs.declared.command.Command.TheVariants as command
-use Rattle.tap_world.specs.Then.{◌>>=◌}
+use Rattle.tap_ground.specs.Options.{◌>>=◌}
 use Rattle.tap_world.specs.Guests.{Vhost, is_ring}
 use Rattle.tap_world.specs.Setup.{Setup}
 use Rattle.tap_world.specs.Line.{File}

@@ -6,14 +6,14 @@ use Rattle.tap_world.specs.declared.event.Event.{Event}
 use Rattle.tap_world.specs.declared.event.EventKind.{EventKind}
 use Rattle.tap_world.specs.declared.event.EventKind.TheVariants as event
 use Rattle.tap_world.specs.declared.event.Heard.{Heard}
-use Rattle.tap_world.specs.Then.{◌>>=◌}
+use Rattle.tap_ground.specs.Options.{◌>>=◌}
 use Rattle.tap_world.specs.Setup.{Setup}
 use Rattle.tap_world.specs.World.{Actor, Doing, World, current, table}
 use Rattle.tap_world.specs.World.Doing.{Begun}
 use Rattle.tap_world.specs.StepControl.{calls, pokes}
 use Rattle.tap_world.specs.StepBackend.{backs, looks_to_back, owns, publishes_back}
 use Rattle.tap_world.specs.StepTurns.{finds_off}
-use Rattle.tap_world.specs.StepTransmits.{finds_nothing, hands, hosts_of_turn, looks_at_flow, teaches, turns}
+use Rattle.tap_world.specs.StepTransmits.{turn_finds_none, hands, hosts_of_turn, looks_at_flow, teaches, turns}
 use Rattle.tap_world.specs.Effect.{Effect, ending, heard_by, settled, with_effect}
 use Rattle.tap_world.specs.StepTable.{looks, publishes}
 use Rattle.tap_world.specs.StepRing.{claims, cuts, drops_for, finds_none, full_now, gone_now, hosts, if_held, leaves, meets_worker, moves, puts, reopens, resizes, shuts, spent_now}
@@ -45,7 +45,7 @@ abbrev pub out_row : Setup → World → ℕ → ℕ → ℕ → Doing → Comma
 out_row s w actor n seen doing c = or_else (leaves s w seen doing) (turns w actor n seen doing c)
 
 abbrev pub not_ready_row : World → ℕ → ℕ → Doing → Command → Option Effect
-not_ready_row w actor seen doing c = or_else (finds_none w seen doing) (finds_nothing w actor seen doing c)
+not_ready_row w actor seen doing c = or_else (finds_none w seen doing) (turn_finds_none w actor seen doing c)
 
 -- a read meets a worker, a turn no backend, or a backend changes the owner
 abbrev pub owner_row : World → ℕ → ℕ → Doing → Command → Option Effect
@@ -60,7 +60,7 @@ drive_row s w actor seen doing c = backs s w actor seen doing c
 abbrev pub host_row : World → ℕ → ℕ → ℕ → Doing → Command → Option Effect
 host_row w actor n seen doing c = or_else (hosts w actor n seen doing) (hosts_of_turn w seen doing c)
 
--- ---- the rows of the table of events
+-- ---- the rows of the table of events; Fetch, Copy, PublishUsed, Notices and PutBack are of turns alone
 
 abbrev pub row : Setup → World → EventKind → ℕ → Actor → ℕ → Command → Option Effect
 row s w event.Look actor a n c = look_row s w actor a n c
@@ -84,7 +84,10 @@ row s w event.HostIn actor a n c = host_row w actor n a.seen a.doing c
 row s w event.Poke actor a n c = pokes w a.seen c
 row s w event.Peek actor a n c = pokes w a.seen c
 row s w event.Drive actor a n c = drive_row s w actor a.seen a.doing c
-row s w kind actor a n c = turns w actor n a.seen a.doing c
+row s w event.Fetch actor a n c = turns w actor n a.seen a.doing c
+row s w event.Copy actor a n c = turns w actor n a.seen a.doing c
+row s w event.PublishUsed actor a n c = turns w actor n a.seen a.doing c
+row s w event.Notices actor a n c = turns w actor n a.seen a.doing c
 
 -- the row of an event, which has to be the next one of its actor's command
 abbrev pub row_of : Setup → World → Event → Option Effect

@@ -1,5 +1,5 @@
 -- This project's own: how a backend is set and unset: its Look, its Drive, its publication, and the owner of its file.
-use Rattle.std.specs.Prelude.{ℕ, ◌+◌, ◌==◌, ◌&&◌, ◌||◌, not, true, false, if◌then◌else◌, [], ◌∷◌, Option, Some, None, is_none, option_map}
+use Rattle.std.specs.Prelude.{ℕ, ◌+◌, ◌==◌, ◌&&◌, ◌||◌, not, true, false, if◌then◌else◌, [], ◌∷◌, Option, Some, None, is_none}
 use Rattle.std.specs.Option.{option_map_or}
 use Rattle.guest_mem.specs.Memory.{Contents}
 use Rattle.tap_ledger.specs.declared.side.Side.{Side}
@@ -17,15 +17,14 @@ use Rattle.scen_words.specs.declared.command.Command.{Command}
 use Rattle.scen_words.specs.declared.command.Command.TheVariants as command
 use Rattle.tap_trace.specs.declared.answer.Answer.{Answer}
 use Rattle.tap_trace.specs.declared.answer.Answer.TheVariants as answer
-use Rattle.tap_trace.specs.declared.causes.TapText.{TapText}
+use Rattle.tap_ledger.specs.declared.error.TapErr.{TapErr as TapText}
 use Rattle.tap_trace.specs.declared.kind.Kind.{Kind}
 use Rattle.tap_trace.specs.declared.kind.Kind.TheVariants as kind
 use Rattle.tap_world.specs.declared.event.Found.TheVariants as found
-use Rattle.tap_world.specs.Then.{◌>>=◌, only_if}
+use Rattle.tap_ground.specs.Options.{◌>>=◌, only_if}
 use Rattle.tap_world.specs.ByNumber.{at}
-use Rattle.tap_world.specs.Causes.{tap_text}
 use Rattle.tap_world.specs.Frames.{Front}
-use Rattle.tap_world.specs.Guests.{Vhost, is_free_for, is_ring, turn_of, vhost_text, with_turn}
+use Rattle.tap_world.specs.Guests.{Vhost, is_free_for, is_ring, turn_of, vhost_answer, with_turn}
 use Rattle.tap_world.specs.Setup.{Setup}
 use Rattle.tap_world.specs.LineSteps.Change.{Owned}
 use Rattle.tap_world.specs.World.{Doing, World, newest, table}
@@ -45,7 +44,7 @@ side_of ring = if ring == 0 then Rx else Tx
 abbrev pub back_refusal : Table → ℕ → ℕ → Option ℕ → Option TapText
 back_refusal t vhost ring None = None
 back_refusal t vhost ring (Some file) =
-    if is_ring ring then option_map tap_text (refuse t (op.Back file (side_of ring) (Some vhost))) else None
+    if is_ring ring then refuse t (op.Back file (side_of ring) (Some vhost)) else None
 
 -- Look: it holds writer and turn from now on, unless the table refuses it
 abbrev pub back_seen : World → ℕ → ℕ → ℕ → Vhost → Option TapText → Effect
@@ -71,12 +70,16 @@ back_ends w actor seen vhost ring refusal v m x step = record (only (Ends seen x
   writer = if is_none refusal then None else w.writer;
 }
 
+-- the answer of a vhost's refusal, where there is one; none where it has no words
+abbrev pub refused_by : Option VhostErr → Option (Option Answer)
+refused_by None = Some None
+refused_by (Some e) = option_map (λ x. Some x) (vhost_answer e)
+
 -- the refusals of a set backend in their order: the ring isn't ready, the table's, the header doesn't fit
-abbrev pub back_answer : Option VhostErr → Option TapText → Option VhostErr → Option Answer
-back_answer (Some e) refusal unfit = Some (answer.Vhost (vhost_text e))
-back_answer None (Some r) unfit = Some (answer.Tap r)
-back_answer None None (Some e) = Some (answer.Vhost (vhost_text e))
-back_answer None None None = None
+abbrev pub back_answer : Option VhostErr → Option TapText → Option VhostErr → Option (Option Answer)
+back_answer (Some e) refusal unfit = refused_by (Some e)
+back_answer None (Some r) unfit = Some (Some (answer.Tap r))
+back_answer None None unfit = refused_by unfit
 
 abbrev pub unfit_for : Option Front → Settings → Option VhostErr
 unfit_for None s = None
@@ -92,9 +95,8 @@ sets_back w actor seen vhost ring file refusal v m None =
     }
 
 -- unset: where the ring had one, the file is given back, if it receives, and the table is told
-abbrev pub unsets_back : World → ℕ → ℕ → ℕ → ℕ → Vhost → Contents → Option VhostErr → Option ℕ → Effect
-unsets_back w actor seen vhost ring v m (Some e) file =
-    back_ends w actor seen vhost ring None v m (answer.Vhost (vhost_text e)) None
+abbrev pub unsets_back : World → ℕ → ℕ → ℕ → ℕ → Vhost → Contents → Option Answer → Option ℕ → Effect
+unsets_back w actor seen vhost ring v m (Some x) file = back_ends w actor seen vhost ring None v m x None
 unsets_back w actor seen vhost ring v m None None =
     back_ends w actor seen vhost ring None v m answer.Done (Some (kind.Backend vhost ring false))
 unsets_back w actor seen vhost ring v m None (Some file) =
@@ -105,19 +107,20 @@ unsets_back w actor seen vhost ring v m None (Some file) =
       vhosts = OnVhost vhost (record v { settings = without_backend ring v.settings });
     }
 
-abbrev pub back_call : Setup → World → ℕ → ℕ → Option TapText → ℕ → ℕ → Option ℕ → Vhost → Contents → Effect
-back_call s w actor seen refusal vhost ring None v m =
-    unsets_back w actor seen vhost ring v m (number_refusal ring) (ring_at ring v.settings).file
-back_call s w actor seen refusal vhost ring (Some file) v m =
-    sets_back w actor seen vhost ring file refusal v m
-    (back_answer (ready_refusal ring m v.settings) refusal (unfit_for (shape_of (table s w) file) v.settings))
+abbrev pub back_call : Setup → World → ℕ → ℕ → Option TapText → ℕ → ℕ → Option ℕ → Vhost → Contents → Option Effect
+back_call s w actor seen refusal vhost ring None v m = do
+  told ← refused_by (number_refusal ring)
+  Some (unsets_back w actor seen vhost ring v m told (ring_at ring v.settings).file)
+back_call s w actor seen refusal vhost ring (Some file) v m = do
+  told ← back_answer (ready_refusal ring m v.settings) refusal (unfit_for (shape_of (table s w) file) v.settings)
+  Some (sets_back w actor seen vhost ring file refusal v m told)
 
 -- Drive, of a backend
 abbrev pub backs : Setup → World → ℕ → ℕ → Doing → Command → Option Effect
 backs s w actor seen (Backs refusal) (command.Backend vhost ring file) = do
   v ← at w.vhosts vhost
   g ← at w.guests v.guest
-  only_if (is_free_for actor ring v) (back_call s w actor seen refusal vhost ring file v g.memory)
+  if is_free_for actor ring v then back_call s w actor seen refusal vhost ring file v g.memory else None
 backs s w actor seen doing c = None
 
 -- its publication, and its end, which gives back writer and turn

@@ -1,7 +1,6 @@
 -- This project's own: the events of rings, files and the host. Each row is what the event changes, and none where its
 -- condition doesn't hold; the condition of a file's change stands with the change.
 use Rattle.std.specs.Prelude.{ℕ, ◌+◌, ◌&&◌, true, false, List, [], ◌∷◌, length, Option, Some, None, is_none, is_some, slice_get, if◌then◌else◌}
-use Rattle.std.specs.Option.{option_map_or}
 use Rattle.tap_flow_key.specs.Fnv.{fnv_of}
 use Rattle.tap_frame.specs.declared.name.Name.{Name}
 use Rattle.tap_ledger.specs.declared.fate.Cause.{Cause}
@@ -9,9 +8,9 @@ use Rattle.tap_ledger.specs.declared.fate.Cause.TheVariants as cause
 use Rattle.tap_ledger.specs.declared.fate.Fate.TheVariants as fate
 use Rattle.tap_trace.specs.declared.answer.Answer.TheVariants as answer
 use Rattle.tap_world.specs.declared.event.Found.TheVariants as found
-use Rattle.tap_world.specs.Then.{◌>>=◌, only_if}
+use Rattle.tap_ground.specs.Options.{◌>>=◌, only_if}
 use Rattle.tap_world.specs.ByNumber.{at}
-use Rattle.tap_world.specs.Frames.{Front, text_in}
+use Rattle.tap_world.specs.Frames.{FrameText, Front, text_in}
 use Rattle.tap_world.specs.Setup.{Setup, frame_of}
 use Rattle.tap_world.specs.Line.{Entry, File, claimed, first_that, freed, front_place, in_batch, in_ring, is_full, is_gone, is_spent, last_that}
 use Rattle.tap_world.specs.LineSteps.{ready_front}
@@ -110,11 +109,9 @@ moves w (Reads file room front) = moves_in w file
 moves w (Purges file version) = moves_in w file
 moves w doing = None
 
--- what a read gives of the batch's front: its name, its place, and its bytes in the room
-abbrev pub read_told : Setup → File → Front → ℕ → ℕ → ℕ → Entry → Onward
-read_told s f front room seen i e =
-    let text : List ℕ = option_map_or (λ x. text_in front x room) (frame_of s e.name e.len) [] in
-    Ends seen (answer.Read e.name (f.first + i) text)
+-- what a read gives of the batch's front: its name, its place, and its frame's text in the room
+abbrev pub read_told : File → Front → ℕ → ℕ → ℕ → Entry → FrameText → Onward
+read_told f front room seen i e x = Ends seen (answer.Read e.name (f.first + i) (text_in front x room))
 
 -- Out: the batch's front leaves, as read or as purged
 abbrev pub leaves : Setup → World → ℕ → Doing → Option Effect
@@ -122,7 +119,8 @@ leaves s w seen (Reads file room front) = do
   f ← at w.files file
   i ← first_that in_batch f.line
   e ← slice_get f.line i
-  Some (on_file file (Leaves None fate.Read) (read_told s f front room seen i e) w)
+  x ← frame_of s e.name e.len
+  Some (on_file file (Leaves None fate.Read) (read_told f front room seen i e x) w)
 leaves s w seen (Purges file version) = do
   f ← at w.files file
   name ← name_at f.line (first_that in_batch f.line)

@@ -1,5 +1,5 @@
--- This project's own: the events of the queue table, Look and Publish. Each row is what the event changes, and none
--- where its condition doesn't hold.
+-- This project's own: the events Look and Publish of control commands, sends, reads and writes; those of backends and of
+-- turns stand with theirs. Each row is what the event changes, and none where its condition doesn't hold.
 use Rattle.std.specs.Prelude.{ℕ, ◌+◌, ◌&&◌, nat_lt, Bool, true, false, if◌then◌else◌, List, [], ◌∷◌, length, Option, Some, None, is_none}
 use Rattle.std.specs.Option.{option_map_or}
 use Rattle.tap_flow_key.specs.Fnv.{fnv_of}
@@ -7,7 +7,7 @@ use Rattle.tap_flow_key.specs.FlowKey.{hash}
 use Rattle.tap_frame.specs.declared.name.Name.{Name}
 use Rattle.tap_frame.specs.declared.reading.BadFrame.{BadFrame}
 use Rattle.tap_ledger.specs.declared.fate.Cause.TheVariants as cause
-use Rattle.tap_steer.specs.declared.error.TapErr.{TapErr}
+use Rattle.tap_ledger.specs.declared.error.TapErr.{TapErr}
 use Rattle.tap_steer.specs.declared.files.Attachment.{Attachment}
 use Rattle.tap_steer.specs.declared.files.Attachment.TheVariants.{Enabled}
 use Rattle.tap_steer.specs.declared.operation.Op.{Op}
@@ -21,11 +21,10 @@ use Rattle.tap_steer.specs.Select as steer
 use Rattle.scen_words.specs.declared.command.Command.{Command}
 use Rattle.scen_words.specs.declared.command.Command.TheVariants as command
 use Rattle.tap_trace.specs.declared.answer.Answer.TheVariants as answer
-use Rattle.tap_trace.specs.declared.causes.TapText.TheVariants.{EBADFD}
+use Rattle.tap_ledger.specs.declared.error.TapErr.TheVariants.{EBADFD}
 use Rattle.tap_world.specs.declared.event.Found.TheVariants as found
-use Rattle.tap_world.specs.Then.{◌>>=◌, only_if}
+use Rattle.tap_ground.specs.Options.{◌>>=◌, only_if}
 use Rattle.tap_world.specs.ByNumber.{at}
-use Rattle.tap_world.specs.Causes.{tap_text}
 use Rattle.tap_world.specs.Frames.{Front, bad_in, ether_in, least_in, sent_bytes, sent_front}
 use Rattle.tap_world.specs.Setup.{Setup, op_of}
 use Rattle.tap_world.specs.Line.{File, freed}
@@ -50,13 +49,13 @@ course t (op.Resize file capacity) = Resizes file capacity
 course t other = Changes
 
 -- it ends with the table's refusal, or holds the writer from now on
-abbrev pub approved : World → ℕ → Doing → Option TapErr → Effect
-approved w actor doing (Some refusal) = only (Ends (newest w) (answer.Tap (tap_text refusal))) w
-approved w actor doing None =
+abbrev pub decided : World → ℕ → Doing → Option TapErr → Effect
+decided w actor doing (Some refusal) = only (Ends (newest w) (answer.Tap refusal)) w
+decided w actor doing None =
     record (only (Goes (newest w) doing (found.Version (newest w))) w) { writer = Some actor }
 
 abbrev pub looks_to_change : Table → World → ℕ → Op → Option Effect
-looks_to_change t w actor x = only_if (is_none w.writer) (approved w actor (course t x) (refuse t x))
+looks_to_change t w actor x = only_if (is_none w.writer) (decided w actor (course t x) (refuse t x))
 
 -- ---- Look, of a send, a read and a write
 

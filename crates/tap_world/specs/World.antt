@@ -2,19 +2,24 @@
 use Rattle.std.specs.Prelude.{ℕ, ◌==◌, List, length, map, take, slice_get, Bool, false, Option}
 use Rattle.std.specs.Option.{option_map_or}
 use Rattle.tap_frame.specs.declared.name.Name.{Name}
-use Rattle.tap_steer.specs.declared.operation.Op.{Op}
 use Rattle.tap_steer.specs.Table.{Table}
 use Rattle.tap_steer.specs.After.{after_all}
-use Rattle.tap_frame.specs.Frame.{FrameValue}
-use Rattle.tap_trace.specs.declared.causes.TapText.{TapText}
+use Rattle.tap_ledger.specs.declared.error.TapErr.{TapErr as TapText}
 use Rattle.tap_trace.specs.declared.turn.ChainText.{ChainText}
-use Rattle.tap_trace.specs.declared.trace.AnswerLine.{AnswerLine}
 use Rattle.vring_turns.specs.RxTurn.{RxTurn}
 use Rattle.vring_turns.specs.TxTurn.{TxTurn}
 use Rattle.tap_world.specs.Frames.{Front}
 use Rattle.tap_world.specs.Setup.{Numbered, Setup, opening_table}
 use Rattle.tap_world.specs.Line.{File}
 use Rattle.tap_world.specs.Guests.{Guest, Vhost}
+
+pub use Rattle.tap_world.specs.declared.told.Published.{Published}
+pub use Rattle.tap_world.specs.declared.told.Said.{Said}
+
+-- a frame that the host has: its name, and the hash of its flow
+pub record HostFrame : Type 0 where
+  pub name : Name
+  pub flow : ℕ
 
 -- How far a command has come, with the file that it is about.
 pub data Doing : Type 0 where
@@ -24,7 +29,7 @@ pub data Doing : Type 0 where
   Opened : ℕ → Doing  -- to publish
   Withdraws : ℕ → Doing  -- a detach, to publish
   Withdrawn : ℕ → ℕ → Doing  -- to shut the gate; and the version that it published
-  Purges : ℕ → ℕ → Doing  -- to empty batch and ring
+  Purges : ℕ → ℕ → Doing  -- to empty batch and ring; and the version that it published
   Resizes : ℕ → ℕ → Doing  -- a resize, to change the capacity to this one
   Shrinks : ℕ → ℕ → ℕ → Doing  -- to cut what is over, and to publish; the claim count at its resize, and its cuts
   Routed : ℕ → ℕ → ℕ → Doing  -- a send with a row: its file and epoch, and the length that is kept
@@ -40,8 +45,8 @@ pub data Doing : Type 0 where
   Released : ℕ → Doing  -- it is unset in a transmit ring, to publish
   Receives : ℕ → RxTurn → Doing  -- a receive turn on a file
   Transmits : ℕ → TxTurn → List ChainText → Doing  -- a transmit turn on a file, and what became of its chains
-  Given : ℕ → TxTurn → List ChainText → FrameValue → Doing  -- its frame is with the host, to look
-  Teaches : ℕ → TxTurn → List ChainText → FrameValue → Doing  -- the frame's flow is to be learnt
+  Given : ℕ → TxTurn → List ChainText → HostFrame → Doing  -- its frame is with the host, to look
+  Teaches : ℕ → TxTurn → List ChainText → HostFrame → Doing  -- the frame's flow is to be learnt
 
 -- an actor: the newest version that it has seen, its commands that haven't ended, and how far the first of them has
 -- come
@@ -49,18 +54,6 @@ pub record Actor : Type 0 where
   pub seen : ℕ
   pub script : List Numbered
   pub doing : Doing
-
--- an operation of the table, with its phase, actor and command
-pub record Published : Type 0 where
-  pub phase : ℕ
-  pub actor : ℕ
-  pub command : ℕ
-  pub op : Op
-
--- an answer, with its phase
-pub record Said : Type 0 where
-  pub phase : ℕ
-  pub line : AnswerLine
 
 -- A world: the operations; files, guests and vhosts by number; the names that were given to the host, and that were
 -- dropped; the actor that holds the writer; the number of the phase; its actors; and the answers given.

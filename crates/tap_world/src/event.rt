@@ -39,7 +39,7 @@ pub enum EventKind {
     Out,
     /// No frame is ready.
     NotReady,
-    /// A file gets an owner, or an owner is found.
+    /// A file gets an owner or is given back, a read finds an owner, or a turn finds no backend or a stopped ring.
     Owner,
     /// A chain is fetched from a ring.
     Fetch,

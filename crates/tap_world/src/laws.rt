@@ -3,7 +3,7 @@
 ghost use Rattle.tap_world.specs.Examples.{NoClaimWhenFull, RunHasTrace};
 ghost use Rattle.tap_world.specs.Laws.{FramesAgree, LeaveInOrder, NameStandsOnce, OneOrder, UpgradeHasSameOrders};
 
-/// A scenario has one order for each seed: its events, and the world that it ends in.
+/// A scenario has at most one order for each seed: its events, and the world that it ends in.
 pub fn one_order()
     ensures { OneOrder }
 {}
@@ -28,7 +28,7 @@ pub fn frames_agree()
     ensures { FramesAgree }
 {}
 
-/// A worked run: its trace, and an event that isn't allowed.
+/// A worked run: its trace, and a claim that isn't allowed in its full ring, and is with one place more.
 pub fn worked_run()
     ensures trace { RunHasTrace }
     ensures full { NoClaimWhenFull }

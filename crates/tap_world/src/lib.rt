@@ -1,4 +1,4 @@
-//! The world that a scenario runs in: definitions alone.
+//! The world that a scenario runs in: definitions, laws on what they mean, and no code.
 //!
 //! A run is a list of [`Event`]s, phase by phase. `specs/Setup.antt` says what a scenario lays down,
 //! `specs/Line.antt` and `specs/LineSteps.antt` what a file's line is and how one step changes it,
@@ -15,8 +15,12 @@
 
 mod event;
 mod laws;
+mod line;
+mod told;
 
 pub use event::{Event, EventKind, Found, Heard};
 pub use laws::{
     frames_agree, leave_in_order, name_stands_once, one_order, upgrade_has_same_orders, worked_run,
 };
+pub use line::{Entry, Standing};
+pub use told::{Published, Said};

@@ -6,11 +6,12 @@ use Rattle.std.proofs.lemmas.Option.{get_or_from_slice_get, slice_get_within}
 use Rattle.std.proofs.Math.Seq.{drop-cons}
 use Rattle.text_fields.specs.declared.fault.FieldFault.{FieldFault}
 use Rattle.text_fields.specs.declared.fault.FieldFault.TheVariants as fault
-use Rattle.text_fields.specs.declared.fault.ReadError.{ReadError}
-use Rattle.text_fields.specs.declared.fault.ReadError.TheVariants.{Fault, NoMemory}
+use Rattle.tap_ground.specs.declared.error.OrMemory.{OrMemory}
+use Rattle.tap_ground.specs.declared.error.OrMemory.TheVariants.{Fault, NoMemory}
 use Rattle.text_fields.specs.declared.kind.Kind.{Kind}
 use Rattle.text_fields.specs.declared.value.Value.{Value}
-use Rattle.text_fields.specs.Answers.{Answers, TellsNumber}
+use Rattle.tap_ground.specs.Errors.{Gives}
+use Rattle.text_fields.specs.Answers.{TellsNumber}
 use Rattle.text_fields.specs.Fields.{field_value, or_fault}
 use Rattle.text_fields.specs.Finished.{finished}
 use Rattle.text_fields.specs.Forms.{values_under, with_first}
@@ -92,8 +93,8 @@ number_step front bad kinds i kind field fields at_i is =
     ∙ number_now front bad (values_under (drop (i + 1) kinds) fields)
 
 -- an error of a number is that of the whole
-pub number_tells : (whole : Values) (error : ReadError) (front : List Value) (bad : Bool) (kinds : List Kind) (i : ℕ) (kind : Kind) (field : List ℕ) (fields : List (List ℕ))
-    → slice_get kinds i ≡ Some kind → TellsNumber error (field_value kind field) → so_far front bad kinds i (field ∷ fields) ≡ whole → Answers {X = List Value} (Err error) whole
+pub number_tells : (whole : Values) (error : OrMemory FieldFault) (front : List Value) (bad : Bool) (kinds : List Kind) (i : ℕ) (kind : Kind) (field : List ℕ) (fields : List (List ℕ))
+    → slice_get kinds i ≡ Some kind → TellsNumber error (field_value kind field) → so_far front bad kinds i (field ∷ fields) ≡ whole → Gives {X = List Value} (Err error) whole
 number_tells whole (Fault why) front bad kinds i kind field fields at_i tells same =
     sym same ∙ number_step front bad kinds i kind field fields at_i tells.1 ∙ ap (λ (w : FieldFault). Err w) (sym tells.0)
 number_tells whole NoMemory front bad kinds i kind field fields at_i tells same = tt
@@ -111,8 +112,8 @@ kinds_end front bad kinds i fields e = ap (λ (ks : List Kind). finished front b
 
 -- ---- the loop
 
-pub answers_same : (r : Result (List Value) ReadError) (a b : Values) → a ≡ b → Answers r a → Answers r b
-answers_same r a b e h = subst (λ (x : Values). Answers r x) e h
+pub answers_same : (r : Result (List Value) (OrMemory FieldFault)) (a b : Values) → a ≡ b → Gives r a → Gives r b
+answers_same r a b e h = subst (λ (x : Values). Gives r x) e h
 
 pub some_left_at : (i count : ℕ) (left rest : List (List ℕ)) (field : List ℕ) → i + length left ≤ count → left ≡ field ∷ rest → (i < count) × (i + 1 + length rest ≤ count)
 some_left_at i count left rest field le e =

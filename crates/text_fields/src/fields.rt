@@ -1,16 +1,18 @@
 //! A field read by its kind.
 
 ghost use Rattle.std.specs.Prelude.{◌≡◌, IfOk, MatchResult};
-ghost use Rattle.text_fields.specs.Answers.{Answers, TellsNumber};
+ghost use Rattle.tap_ground.specs.Errors.{Gives};
+ghost use Rattle.text_fields.specs.Answers.{TellsNumber};
 ghost use Rattle.text_fields.specs.Fields.{dash, fault_in, field_value, or_fault, shape_of, value_in, value_of};
 
 use crate::device_name::DeviceName;
-use crate::fault::{FieldFault, ReadError};
+use crate::fault::FieldFault;
 use crate::hexadecimal::{bytes_of, hex_number_of, so_many_of};
 use crate::kind::{Kind, Shape};
 use crate::numbers::{in_range, number_of};
 use crate::value::Value;
 use std::alloc::{AllocError, Global};
+use tap_ground::OrMemory;
 
 // The value that a field of this shape says.
 fn value_in(alloc: Global, shape: Shape, field: &[u8]) -> Result<Option<Value>, AllocError>
@@ -55,12 +57,12 @@ fn fault_of(kind: Kind) -> FieldFault
 }
 
 /// The value that a field says, or how it is refused.
-pub fn read_field(alloc: Global, kind: Kind, field: &[u8]) -> Result<Value, ReadError>
-    ensures { Answers result (field_value kind field.now) }
+pub fn read_field(alloc: Global, kind: Kind, field: &[u8]) -> Result<Value, OrMemory<FieldFault>>
+    ensures { Gives result (field_value kind field.now) }
 {
     match value_of(alloc, kind, field)? {
         Some(value) => Ok(value),
-        None => Err(ReadError::Fault(fault_of(kind))),
+        None => Err(OrMemory::Fault(fault_of(kind))),
     }
 }
 
@@ -69,7 +71,7 @@ pub fn read_or_bad_digits(
     alloc: Global,
     kind: Kind,
     field: &[u8],
-) -> Result<Option<Value>, ReadError>
+) -> Result<Option<Value>, OrMemory<FieldFault>>
     ensures { MatchResult result (λ value. field_value kind field.now ≡ or_fault FieldFault.Hex value)
         (λ error. TellsNumber error (field_value kind field.now)) }
 {
@@ -77,7 +79,7 @@ pub fn read_or_bad_digits(
         Some(value) => Ok(Some(value)),
         None => match fault_of(kind) {
             FieldFault::Hex => Ok(None),
-            why => Err(ReadError::Fault(why)),
+            why => Err(OrMemory::Fault(why)),
         },
     }
 }

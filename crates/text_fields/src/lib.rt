@@ -26,7 +26,7 @@ mod value;
 mod writing;
 
 pub use device_name::DeviceName;
-pub use fault::{FieldFault, ReadError};
+pub use fault::FieldFault;
 pub use fields::read_field;
 pub use form::{Form, Rest};
 pub use kind::{Digits, Kind, Shape};
@@ -34,6 +34,7 @@ pub use laws::{form_laws, line_laws, value_laws};
 pub use lines::{Fields, Lines, is_text_line};
 pub use numbers::number_of;
 pub use shared::SharedBytes;
+pub use tap_ground::OrMemory;
 pub use text::Text;
 pub use value::Value;
 pub use writing::{HexDigits, LowerHex, Written};

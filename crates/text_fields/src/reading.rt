@@ -2,17 +2,18 @@
 
 ghost use Rattle.std.specs.Prelude.{◌≡◌, ◌≤◌, not, [], length, true, false, MatchOption};
 ghost use Rattle.std.specs.List.{list_all};
-ghost use Rattle.text_fields.specs.Answers.{Answers};
+ghost use Rattle.tap_ground.specs.Errors.{Gives};
 ghost use Rattle.text_fields.specs.Finished.{finished};
 ghost use Rattle.text_fields.specs.Forms.{is_empty, kinds_for, values_of, values_under};
 
-use crate::fault::{FieldFault, ReadError};
+use crate::fault::FieldFault;
 use crate::fields::read_or_bad_digits;
 use crate::form::Form;
 use crate::lines::Fields;
 use crate::value::Value;
 use sqlite_items::Items;
 use std::alloc::Global;
+use tap_ground::OrMemory;
 
 // How many fields there are, where none is empty.
 fn count_of(fields: &Fields<'_>) -> Option<usize>
@@ -31,11 +32,11 @@ fn count_of(fields: &Fields<'_>) -> Option<usize>
 }
 
 // What the values so far come to where no more are read.
-fn finished(values: Items<Value>, bad_digits: bool) -> Result<Items<Value>, ReadError>
-    ensures { Answers result (finished values bad_digits (Ok [])) }
+fn finished(values: Items<Value>, bad_digits: bool) -> Result<Items<Value>, OrMemory<FieldFault>>
+    ensures { Gives result (finished values bad_digits (Ok [])) }
 {
     if bad_digits {
-        Err(ReadError::Fault(FieldFault::Hex))
+        Err(OrMemory::Fault(FieldFault::Hex))
     } else {
         Ok(values)
     }
@@ -47,9 +48,9 @@ fn values_under(
     form: &Form,
     count: usize,
     fields: Fields<'_>,
-) -> Result<Items<Value>, ReadError>
+) -> Result<Items<Value>, OrMemory<FieldFault>>
     requires { length fields ≤ count }
-    ensures { Answers result (values_under (kinds_for form.now count) fields.entry) }
+    ensures { Gives result (values_under (kinds_for form.now count) fields.entry) }
 {
     let mut left = fields;
     let mut values = Items::new(alloc);
@@ -71,12 +72,16 @@ fn values_under(
 impl Form {
     /// The values that fields say, or their first fault: an empty field or a wrong count; a number or a name;
     /// hexadecimal digits.
-    pub fn read(&self, alloc: Global, fields: Fields<'_>) -> Result<Items<Value>, ReadError>
-        ensures { Answers result (values_of self.now fields.entry) }
+    pub fn read(
+        &self,
+        alloc: Global,
+        fields: Fields<'_>,
+    ) -> Result<Items<Value>, OrMemory<FieldFault>>
+        ensures { Gives result (values_of self.now fields.entry) }
     {
         match count_of(&fields) {
             Some(count) if self.has_count(count) => values_under(alloc, self, count, fields),
-            _ => Err(ReadError::Fault(FieldFault::Fields)),
+            _ => Err(OrMemory::Fault(FieldFault::Fields)),
         }
     }
 }

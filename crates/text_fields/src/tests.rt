@@ -1,6 +1,6 @@
 //! Lines that are read and written again, and lines that are refused.
 
-use crate::{Digits, FieldFault, Fields, Form, Kind, ReadError, Rest, Shape, SharedBytes};
+use crate::{Digits, FieldFault, Fields, Form, Kind, OrMemory, Rest, Shape, SharedBytes};
 use std::test::Fail;
 
 const FILE: Kind = Kind::Plain(Shape::Number {
@@ -22,7 +22,11 @@ fn line_form() -> Form {
 }
 
 // The line that is written for what was read of a line, or its fault.
-fn again(rt: &HostRuntime, form: &Form, line: &[u8]) -> Result<Result<String, ReadError>, Fail> {
+fn again(
+    rt: &HostRuntime,
+    form: &Form,
+    line: &[u8],
+) -> Result<Result<String, OrMemory<FieldFault>>, Fail> {
     let mut out = String::new(rt.alloc());
     match form.read(rt.alloc(), Fields::new(line)) {
         Ok(values) => {
@@ -71,7 +75,7 @@ fn the_first_fault_is_told(rt: HostRuntime) -> Result<(), Fail> {
     for (line, fault) in REFUSED {
         assert_eq!(rt;
             again(&rt, &form, line.as_bytes())?.err(),
-            Some(ReadError::Fault(fault))
+            Some(OrMemory::Fault(fault))
         );
     }
     Ok(())

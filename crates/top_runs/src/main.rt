@@ -109,9 +109,7 @@ fn run_long<R: Print + AllocGlobal>(rt: &R) -> Result<()> {
 // Tells which texts may follow a trace: the report, its line of JSON, and that without its LF.
 fn follow<R: Print + AllocGlobal>(rt: &R) -> Result<()> {
     let alloc = rt.alloc();
-    let scenario = read_scenario(alloc, ATTACHED.as_bytes())
-        .ok()
-        .context("refused")?;
+    let scenario = read_scenario(alloc, ATTACHED.as_bytes()).context("refused")?;
     let trace = Trace {
         phases: Items::new(alloc),
         files: Items::new(alloc),

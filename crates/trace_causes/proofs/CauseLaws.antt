@@ -9,9 +9,9 @@ use Rattle.tap_ledger.specs.declared.fate.Fate.{Fate}
 use Rattle.tap_ledger.specs.declared.fate.Fate.TheVariants as fate
 use Rattle.tap_trace.specs.declared.causes.DriveText.{DriveText}
 use Rattle.tap_trace.specs.declared.causes.DriveText.TheVariants as drive
-use Rattle.tap_trace.specs.declared.causes.Invalid.{Invalid}
-use Rattle.tap_trace.specs.declared.causes.Invalid.TheVariants as invalid
-use Rattle.tap_trace.specs.declared.causes.TapText.TheVariants as tap
+use Rattle.tap_ledger.specs.declared.error.Invalid.{Invalid}
+use Rattle.tap_ledger.specs.declared.error.Invalid.TheVariants as invalid
+use Rattle.tap_ledger.specs.declared.error.TapErr.TheVariants as tap
 use Rattle.tap_trace.specs.declared.causes.VhostText.{VhostText}
 use Rattle.tap_trace.specs.declared.causes.VhostText.TheVariants as vhost
 use Rattle.tap_trace.specs.declared.turn.TurnText.{TurnText}
@@ -37,7 +37,8 @@ use Rattle.trace_causes.specs.Fits.{FitDrive, FitDrop, FitEnd, FitErr, FitFate, 
 use Rattle.trace_causes.specs.Laws.{AreClean, CauseLaws, IsClean, IsField, IsPart}
 use Rattle.trace_causes.specs.OpReading.{op_text_in}
 use Rattle.trace_causes.specs.Operations.{op_fields}
-use Rattle.trace_causes.specs.Reading.{◌>>=◌, ended, number_to}
+use Rattle.tap_ground.specs.Options.{◌>>=◌}
+use Rattle.trace_causes.specs.Reading.{ended, number_to}
 use Rattle.trace_causes.specs.Words.{busy_of, drive_spelling, drop_spelling, end_spelling, err_spelling, fate_spelling, invalid_of, invalid_spelling, vhost_spelling}
 use Rattle.trace_causes.proofs.Chains.{IsWritten, as_first, takes_end, takes_first, word_again}
 use Rattle.trace_causes.proofs.FieldLaws.{Laws, numbers16, numbers32, numbers64, numbers8}

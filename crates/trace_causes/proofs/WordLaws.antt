@@ -2,12 +2,12 @@
 use Rattle.std.proofs.Common.{◌≡◌, Bool, true, false, Some, refl}
 use Rattle.tap_ledger.specs.declared.side.Side.{Side}
 use Rattle.tap_ledger.specs.declared.side.Side.TheVariants as side
-use Rattle.tap_trace.specs.declared.causes.Busy.{Busy}
-use Rattle.tap_trace.specs.declared.causes.Busy.TheVariants as busy
-use Rattle.tap_trace.specs.declared.causes.Invalid.{Invalid}
-use Rattle.tap_trace.specs.declared.causes.Invalid.TheVariants as invalid
-use Rattle.tap_trace.specs.declared.causes.TooBig.{TooBig}
-use Rattle.tap_trace.specs.declared.causes.TooBig.TheVariants as big
+use Rattle.tap_ledger.specs.declared.error.Busy.{Busy}
+use Rattle.tap_ledger.specs.declared.error.Busy.TheVariants as busy
+use Rattle.tap_ledger.specs.declared.error.Invalid.{Invalid}
+use Rattle.tap_ledger.specs.declared.error.Invalid.TheVariants as invalid
+use Rattle.tap_ledger.specs.declared.error.TooBig.{TooBig}
+use Rattle.tap_ledger.specs.declared.error.TooBig.TheVariants as big
 use Rattle.trace_causes.specs.Laws.{IsField}
 use Rattle.trace_causes.specs.Table.{word_in}
 use Rattle.trace_causes.specs.declared.words.ErrWord.{ErrWord}

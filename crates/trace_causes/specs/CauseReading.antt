@@ -8,7 +8,7 @@ use Rattle.tap_ledger.specs.declared.fate.Fate.{Fate}
 use Rattle.tap_ledger.specs.declared.fate.Fate.TheVariants as fate
 use Rattle.tap_trace.specs.declared.causes.DriveText.{DriveText}
 use Rattle.tap_trace.specs.declared.causes.DriveText.TheVariants as drive
-use Rattle.tap_trace.specs.declared.causes.TapText.TheVariants as tap
+use Rattle.tap_ledger.specs.declared.error.TapErr.TheVariants as tap
 use Rattle.tap_trace.specs.declared.causes.VhostText.{VhostText}
 use Rattle.tap_trace.specs.declared.causes.VhostText.TheVariants as vhost
 use Rattle.tap_trace.specs.declared.turn.TurnText.{TurnText}
@@ -28,7 +28,8 @@ use Rattle.trace_causes.specs.declared.words.FateWord.TheVariants as fate_word
 use Rattle.trace_causes.specs.declared.words.VhostWord.{VhostWord}
 use Rattle.trace_causes.specs.declared.words.VhostWord.TheVariants as vhost_word
 use Rattle.trace_causes.specs.Words.{big_of, busy_of, drive_word as drive_word_of, drop_word as drop_word_of, end_word as end_word_of, err_word as err_word_of, fate_word as fate_word_of, invalid_of, vhost_word as vhost_word_of}
-use Rattle.trace_causes.specs.Reading.{◌>>=◌, ended, first_by, flag_first, number16, number32, number64, number8, number_to}
+use Rattle.tap_ground.specs.Options.{◌>>=◌}
+use Rattle.trace_causes.specs.Reading.{ended, first_by, flag_first, number16, number32, number64, number8, number_to}
 
 -- ---- `err`
 

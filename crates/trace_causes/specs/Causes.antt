@@ -8,8 +8,8 @@ use Rattle.tap_ledger.specs.declared.fate.Fate.{Fate}
 use Rattle.tap_ledger.specs.declared.fate.Fate.TheVariants as fate
 use Rattle.tap_trace.specs.declared.causes.DriveText.{DriveText}
 use Rattle.tap_trace.specs.declared.causes.DriveText.TheVariants as drive
-use Rattle.tap_trace.specs.declared.causes.TapText.{TapText}
-use Rattle.tap_trace.specs.declared.causes.TapText.TheVariants as tap
+use Rattle.tap_ledger.specs.declared.error.TapErr.{TapErr as TapText}
+use Rattle.tap_ledger.specs.declared.error.TapErr.TheVariants as tap
 use Rattle.tap_trace.specs.declared.causes.VhostText.{VhostText}
 use Rattle.tap_trace.specs.declared.causes.VhostText.TheVariants as vhost
 use Rattle.tap_trace.specs.declared.turn.TurnText.{TurnText}

@@ -7,16 +7,18 @@ use Rattle.text_fields.specs.declared.value.Value.{Value}
 use Rattle.text_fields.specs.Forms.{values_of}
 use Rattle.text_fields.specs.Names as names
 use Rattle.scen_words.specs.Commands.{command_of}
+use Rattle.scen_words.specs.declared.limits.TheConstants.{MAX_FILE}
 use Rattle.scen_words.specs.Words.{command_form}
 use Rattle.trace_causes.specs.declared.words.OpWord.{OpWord}
 use Rattle.trace_causes.specs.declared.words.OpWord.TheVariants as word
 use Rattle.trace_causes.specs.declared.words.TableWord.{TableWord}
-use Rattle.trace_causes.specs.Reading.{◌>>=◌, digits4, digits8, ended, first_by, number16, number_or_dash_of, number_to}
+use Rattle.tap_ground.specs.Options.{◌>>=◌}
+use Rattle.trace_causes.specs.Reading.{digits4, digits8, ended, first_by, number16, number_or_dash_of, number_to}
 use Rattle.trace_causes.specs.Words.{op_word, side_of, table_word}
 
 unfoldable pub setiff_in : List (List ℕ) → Option OpText
 setiff_in fields = do
-  file ← first_by (number_to 319) fields
+  file ← first_by (number_to MAX_FILE) fields
   name ← first_by names.name_of file.1
   flags ← digits4 name.1
   end ← ended flags.1

@@ -9,11 +9,7 @@ use Rattle.text_fields.specs.Fields.{dash}
 use Rattle.text_fields.specs.Hexadecimal.{bytes_of, hex_number_of}
 use Rattle.text_fields.specs.Numbers.{in_range, number_of}
 use Rattle.trace_causes.specs.Words.{flag_of}
-
-infixl 10 ◌>>=◌
-abbrev pub ◌>>=◌ : {A B : Type 0} → Option A → (A → Option B) → Option B
-None >>= f = None
-(Some a) >>= f = f a
+use Rattle.tap_ground.specs.Options.{◌>>=◌}
 
 -- the first field, read so, and the fields behind it
 abbrev pub first_by : {A : Type 0} → (List ℕ → Option A) → List (List ℕ) → Option (A × List (List ℕ))

@@ -5,12 +5,12 @@ use Rattle.tap_frame.specs.declared.reading.BadFrame.{BadFrame}
 use Rattle.tap_frame.specs.declared.reading.BadFrame.TheVariants as bad
 use Rattle.tap_ledger.specs.declared.side.Side.{Side}
 use Rattle.tap_ledger.specs.declared.side.Side.TheVariants as side
-use Rattle.tap_trace.specs.declared.causes.Busy.{Busy}
-use Rattle.tap_trace.specs.declared.causes.Busy.TheVariants as busy
-use Rattle.tap_trace.specs.declared.causes.Invalid.{Invalid}
-use Rattle.tap_trace.specs.declared.causes.Invalid.TheVariants as invalid
-use Rattle.tap_trace.specs.declared.causes.TooBig.{TooBig}
-use Rattle.tap_trace.specs.declared.causes.TooBig.TheVariants as big
+use Rattle.tap_ledger.specs.declared.error.Busy.{Busy}
+use Rattle.tap_ledger.specs.declared.error.Busy.TheVariants as busy
+use Rattle.tap_ledger.specs.declared.error.Invalid.{Invalid}
+use Rattle.tap_ledger.specs.declared.error.Invalid.TheVariants as invalid
+use Rattle.tap_ledger.specs.declared.error.TooBig.{TooBig}
+use Rattle.tap_ledger.specs.declared.error.TooBig.TheVariants as big
 use Rattle.scen_words.specs.declared.word.CommandWord.{CommandWord}
 use Rattle.scen_words.specs.declared.word.CommandWord.TheVariants as command
 use Rattle.scen_words.specs.Words.{command_spelling}

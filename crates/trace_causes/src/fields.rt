@@ -7,11 +7,12 @@ ghost use Rattle.text_fields.specs.Hexadecimal.{bytes_of, hex_number_of};
 ghost use Rattle.text_fields.specs.Names as names;
 ghost use Rattle.trace_causes.specs.Reading.{bytes_or_none, cut, digits4, digits8, ended, first_by, harvested_of, name_first, name_of, name_or_dash_of, number16, number32, number64, number8, number_or_dash_of, number_to};
 
+use scen_words::MAX_FILE;
 use sqlite_items::Items;
 use std::alloc::{AllocError, Global};
 use tap_trace::Name;
 use text_fields::{
-    DeviceName, Digits, Fields, Kind, ReadError, Shape, Value, number_of, read_field, value_laws,
+    DeviceName, Digits, Fields, Kind, OrMemory, Shape, Value, number_of, read_field, value_laws,
 };
 
 /// The first field, and those behind it.
@@ -82,10 +83,10 @@ pub fn number64(fields: Fields<'_>) -> Option<(u64, Fields<'_>)>
 
 /// The number of a file.
 pub fn file_number(fields: Fields<'_>) -> Option<(u16, Fields<'_>)>
-    ensures { result ≡ first_by (number_to 319) fields.entry }
+    ensures { result ≡ first_by (number_to MAX_FILE) fields.entry }
 {
     let (field, fields) = first(fields)?;
-    let number = number_to(319, field)?;
+    let number = number_to(MAX_FILE, field)?;
     Some((number as u16, fields))
 }
 
@@ -187,8 +188,8 @@ fn digits4_of(alloc: Global, field: &[u8]) -> Result<Option<u16>, AllocError>
     value_laws();
     match read_field(alloc, Kind::Plain(Shape::HexNumber(Digits::Four)), field) {
         Ok(Value::Number(n)) => Ok(Some(n as u16)),
-        Ok(_) | Err(ReadError::Fault(_)) => Ok(None),
-        Err(ReadError::NoMemory) => Err(AllocError),
+        Ok(_) | Err(OrMemory::Fault(_)) => Ok(None),
+        Err(OrMemory::NoMemory) => Err(AllocError),
     }
 }
 
@@ -212,8 +213,8 @@ fn digits8_of(alloc: Global, field: &[u8]) -> Result<Option<u32>, AllocError>
     value_laws();
     match read_field(alloc, Kind::Plain(Shape::HexNumber(Digits::Eight)), field) {
         Ok(Value::Number(n)) => Ok(Some(n as u32)),
-        Ok(_) | Err(ReadError::Fault(_)) => Ok(None),
-        Err(ReadError::NoMemory) => Err(AllocError),
+        Ok(_) | Err(OrMemory::Fault(_)) => Ok(None),
+        Err(OrMemory::NoMemory) => Err(AllocError),
     }
 }
 
@@ -236,8 +237,8 @@ fn bytes_of(alloc: Global, field: &[u8]) -> Result<Option<Items<u8>>, AllocError
 {
     match read_field(alloc, Kind::Plain(Shape::Hex), field) {
         Ok(Value::Bytes(bytes)) => Ok(Some(Items::from_slice(alloc, bytes.as_slice())?)),
-        Ok(_) | Err(ReadError::Fault(_)) => Ok(None),
-        Err(ReadError::NoMemory) => Err(AllocError),
+        Ok(_) | Err(OrMemory::Fault(_)) => Ok(None),
+        Err(OrMemory::NoMemory) => Err(AllocError),
     }
 }
 

@@ -9,7 +9,7 @@ use crate::words::{OpWord, TableWord, table_word};
 use scen_words::meaning::command_of;
 use std::alloc::{AllocError, Global};
 use tap_trace::OpText;
-use text_fields::{Fields, ReadError};
+use text_fields::{Fields, OrMemory};
 
 // F NAME HEX4.
 #[tactic(auto, unfolding(crate::specs::OpReading::setiff_in))]
@@ -71,8 +71,8 @@ fn words(alloc: Global, word: TableWord, fields: Fields<'_>) -> Result<Option<Op
             let command = command_of(alloc, 0, word, values.as_slice())?;
             Ok(Some(OpText::Words(command)))
         }
-        Err(ReadError::Fault(_)) => Ok(None),
-        Err(ReadError::NoMemory) => Err(AllocError),
+        Err(OrMemory::Fault(_)) => Ok(None),
+        Err(OrMemory::NoMemory) => Err(AllocError),
     }
 }
 

@@ -1,7 +1,7 @@
 //! A trace read from its text.
 
 ghost use Rattle.std.specs.Prelude.{ℕ, ◌≤◌, length, Err, Ok, IfErr, IfOk};
-ghost use Rattle.scen_words.specs.Gives.{Gives, IfFault};
+ghost use Rattle.tap_ground.specs.Errors.{Gives, IfFault};
 ghost use Rattle.tap_trace.specs.declared.trace.Trace.{Trace};
 ghost use Rattle.trace_text.specs.BadLine.{IsBadLine};
 ghost use Rattle.trace_text.specs.Ordered.{StandsFor};

@@ -15,7 +15,8 @@ use Rattle.trace_causes.specs.CauseReading.{end_in}
 use Rattle.trace_causes.specs.Causes.{end_fields, err_fields}
 use Rattle.trace_causes.specs.Fits.{FitEnd, FitErr, FitHarvested}
 use Rattle.trace_causes.specs.Laws.{AreClean, CauseLaws, FieldLaws, IsPart}
-use Rattle.trace_causes.specs.Reading.{◌>>=◌, ended, first_by, harvested_of, number_to}
+use Rattle.tap_ground.specs.Options.{◌>>=◌}
+use Rattle.trace_causes.specs.Reading.{ended, first_by, harvested_of, number_to}
 use Rattle.trace_causes.specs.Values.{harvested}
 use Rattle.trace_words.specs.declared.words.AnswerWord.{AnswerWord}
 use Rattle.trace_words.specs.declared.words.AnswerWord.TheVariants as word

@@ -2,7 +2,8 @@
 use Rattle.std.proofs.Common.{◌≡◌, ℕ, List, [], ◌∷◌, ◌++◌, Option, Some, None, refl, ap, sym, ◌∙◌, append_assoc}
 use Rattle.std.proofs.lemmas.List.{append-nil}
 use Rattle.trace_words.specs.AnswerReading.{chains_of}
-use Rattle.trace_causes.specs.Reading.{◌>>=◌, harvested_of}
+use Rattle.tap_ground.specs.Options.{◌>>=◌}
+use Rattle.trace_causes.specs.Reading.{harvested_of}
 
 -- the chains so far, and then those that were read
 abbrev pub with_front : List (ℕ × ℕ) → Option (List (ℕ × ℕ)) → Option (List (ℕ × ℕ))

@@ -7,7 +7,8 @@ use Rattle.std.proofs.lemmas.Bool.{and_parts, and_from}
 use Rattle.std.proofs.lemmas.Slice.Eq.{bytes_eq-Decides}
 use Rattle.text_fields.specs.Lines.{is_field_byte}
 use Rattle.trace_causes.specs.Laws.{AreClean, IsClean, IsField}
-use Rattle.trace_causes.specs.Reading.{◌>>=◌, ended, first_by}
+use Rattle.tap_ground.specs.Options.{◌>>=◌}
+use Rattle.trace_causes.specs.Reading.{ended, first_by}
 use Rattle.trace_causes.specs.Table.{word_in}
 
 one_field : {A X : Type 0} (read : List ℕ → Option A) (write : A → List ℕ) (Fit : A → Type 0) → IsField read write Fit → (more : A × List (List ℕ) → Option X) (Good : X → List (List ℕ) → Type 0)

@@ -25,7 +25,7 @@ use Rattle.trace_causes.specs.Fits.{FitFate, FitOp}
 use Rattle.trace_causes.specs.Laws.{AreClean, CauseLaws, FieldLaws, IsClean, IsField}
 use Rattle.trace_causes.specs.OpReading.{op_text_in}
 use Rattle.trace_causes.specs.Operations.{op_fields}
-use Rattle.trace_causes.specs.Reading.{◌>>=◌}
+use Rattle.tap_ground.specs.Options.{◌>>=◌}
 use Rattle.trace_words.specs.AnswerReading.{answer_in}
 use Rattle.trace_words.specs.Answers.{answer_line}
 use Rattle.trace_words.specs.Fits.{FitOpLine, FitPlace, FitStep}

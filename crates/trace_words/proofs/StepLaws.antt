@@ -12,7 +12,8 @@ use Rattle.trace_words.specs.declared.words.PlainWord.TheVariants as plain
 use Rattle.trace_causes.specs.Fits.{IsRing}
 use Rattle.trace_causes.specs.Laws.{AreClean, FieldLaws}
 use Rattle.trace_words.specs.Fits.{FitKind, FitStep}
-use Rattle.trace_causes.specs.Reading.{◌>>=◌, first_by}
+use Rattle.tap_ground.specs.Options.{◌>>=◌}
+use Rattle.trace_causes.specs.Reading.{first_by}
 use Rattle.trace_words.specs.StepReading.{backend_in, copy_in, features_in, fetch_in, halt_in, kind_behind, notices_in, plain_in, plain_kind, publish_in, step_in}
 use Rattle.trace_words.specs.Steps.{kind_fields, step_line}
 use Rattle.trace_words.specs.Words.{kind_spelling, kind_word}

@@ -10,7 +10,8 @@ use Rattle.trace_causes.specs.declared.err_text.ErrText.{ErrText}
 use Rattle.trace_causes.specs.declared.err_text.ErrText.TheVariants as err
 use Rattle.trace_causes.specs.CauseReading.{derr_in, drop_in, end_in, err_in, verr_in}
 use Rattle.trace_causes.specs.Words.{bad_of}
-use Rattle.trace_causes.specs.Reading.{◌>>=◌, bytes_or_none, digits8, ended, first_by, harvested_of, name_first, number16, number32, number64, number_to}
+use Rattle.tap_ground.specs.Options.{◌>>=◌}
+use Rattle.trace_causes.specs.Reading.{bytes_or_none, digits8, ended, first_by, harvested_of, name_first, number16, number32, number64, number_to}
 use Rattle.trace_words.specs.Words.{answer_word}
 
 -- `ok` alone, or with a version

@@ -9,7 +9,8 @@ use Rattle.trace_words.specs.declared.words.HeadWord.{HeadWord}
 use Rattle.trace_words.specs.declared.words.HeadWord.TheVariants as head
 use Rattle.trace_words.specs.AnswerReading.{answer_in}
 use Rattle.trace_causes.specs.OpReading.{op_text_in}
-use Rattle.trace_causes.specs.Reading.{◌>>=◌, digits8, ended, first_by, name_first, number16, number32, number64}
+use Rattle.tap_ground.specs.Options.{◌>>=◌}
+use Rattle.trace_causes.specs.Reading.{digits8, ended, first_by, name_first, number16, number32, number64}
 use Rattle.trace_causes.specs.Words.{bad_of}
 use Rattle.trace_words.specs.Places.{place_in}
 use Rattle.trace_words.specs.StepReading.{step_in}

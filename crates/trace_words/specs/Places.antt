@@ -5,7 +5,8 @@ use Rattle.tap_trace.specs.declared.trace.PlaceLine.{PlaceLine}
 use Rattle.scen_words.specs.Field.{frame_name}
 use Rattle.trace_causes.specs.Causes.{fate_fields}
 use Rattle.trace_causes.specs.CauseReading.{fate_in}
-use Rattle.trace_causes.specs.Reading.{◌>>=◌, name_first, number16, number32, number64}
+use Rattle.tap_ground.specs.Options.{◌>>=◌}
+use Rattle.trace_causes.specs.Reading.{name_first, number16, number32, number64}
 
 -- `line PLACE EPOCH NAME LEN FATE`
 abbrev pub place_line : PlaceLine → List (List ℕ)

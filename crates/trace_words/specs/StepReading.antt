@@ -7,7 +7,8 @@ use Rattle.trace_words.specs.declared.words.KindWord.{KindWord}
 use Rattle.trace_words.specs.declared.words.KindWord.TheVariants as word
 use Rattle.trace_words.specs.declared.words.PlainWord.{PlainWord}
 use Rattle.trace_words.specs.declared.words.PlainWord.TheVariants as plain
-use Rattle.trace_causes.specs.Reading.{◌>>=◌, ended, first_by, flag_first, name_or_dash_of, number16, number32, number8}
+use Rattle.tap_ground.specs.Options.{◌>>=◌}
+use Rattle.trace_causes.specs.Reading.{ended, first_by, flag_first, name_or_dash_of, number16, number32, number8}
 use Rattle.trace_words.specs.Words.{kind_word}
 
 -- the step of a word behind which a vhost and a ring stand

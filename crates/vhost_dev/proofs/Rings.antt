@@ -9,7 +9,8 @@ use Rattle.vhost_queue.specs.Queue.{IsGood, IsQueueSize}
 use Rattle.vhost_dev.specs.declared.error.VhostErr.{VhostErr}
 use Rattle.vhost_dev.specs.declared.error.VhostErr.TheVariants.{EINVAL, EBUSY, EFAULT, ENOBUFS, ENOTSUP}
 use Rattle.vhost_dev.specs.Settings.{RingSettings, Settings, ring_of, with_ring, ring_at, is_rx, asks_more}
-use Rattle.vhost_dev.specs.Refusals.{first_reason, is_no_ring, is_backed, is_bad_size, is_unaligned, is_outside, is_astray, features_refusal, ready_refusal}
+use Rattle.tap_ground.specs.Options.{first_that_holds as first_reason}
+use Rattle.vhost_dev.specs.Refusals.{is_no_ring, is_backed, is_bad_size, is_unaligned, is_outside, is_astray, features_refusal, ready_refusal}
 use Rattle.vhost_dev.specs.Calls.{chosen, resized, begun, placed, backed, unbacked, with_features}
 use Rattle.vhost_dev.specs.Laws.{Call, HaveSizes, BackedAreGood, after, refusal_of, made_by, sets_backend}
 use Rattle.vhost_dev.specs.Laws.Call.{SetFeatures, SetNum, SetBase, SetAddr, SetBackend, UnsetBackend}

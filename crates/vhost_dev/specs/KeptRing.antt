@@ -5,7 +5,8 @@ use Rattle.vhost_queue.specs.Queue.{Reserved}
 use Rattle.vhost_dev.specs.declared.error.VhostErr.{VhostErr}
 use Rattle.vhost_dev.specs.declared.error.VhostErr.TheVariants.{EINVAL, EBUSY, EFAULT}
 use Rattle.vhost_dev.specs.Settings.{RingSettings}
-use Rattle.vhost_dev.specs.Refusals.{first_reason, is_backed, is_bad_size, is_bad_position, is_unaligned, is_outside, is_astray}
+use Rattle.tap_ground.specs.Options.{first_that_holds as first_reason}
+use Rattle.vhost_dev.specs.Refusals.{is_backed, is_bad_size, is_bad_position, is_unaligned, is_outside, is_astray}
 
 -- a ring's settings, and how many places for published chains are reserved
 pub record KeptRing : Type 0 where

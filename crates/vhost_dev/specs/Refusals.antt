@@ -1,5 +1,5 @@
 -- This project's own, after Linux's vhost: why a control call is refused, the first reason first.
-use Rattle.std.specs.Prelude.{ℕ, ◌%◌, Bool, not, ◌&&◌, ◌||◌, ◌==◌, nat_lt, nat_le, List, [], ◌∷◌, Option, None, Some, is_some, unwrap_or, if◌then◌else◌}
+use Rattle.std.specs.Prelude.{ℕ, ◌%◌, Bool, not, ◌&&◌, ◌||◌, ◌==◌, nat_lt, nat_le, [], ◌∷◌, Option, is_some, unwrap_or}
 use Rattle.std.specs.Int.{is_power_of_two}
 use Rattle.guest_mem.specs.Memory.{Contents, covers}
 use Rattle.vring_split.specs.declared.layout.Layout.{Layout}
@@ -7,11 +7,7 @@ use Rattle.vring_split.specs.Split.{desc_len, avail_len, used_len}
 use Rattle.vhost_dev.specs.declared.error.VhostErr.{VhostErr}
 use Rattle.vhost_dev.specs.declared.error.VhostErr.TheVariants.{EINVAL, EBUSY, EFAULT, ENOBUFS, EHDR, ENOTSUP}
 use Rattle.vhost_dev.specs.Settings.{RingSettings, Settings, ring_at, asks_more, hdr_of}
-
--- the first of the reasons that hold
-abbrev pub first_reason : List (Bool × VhostErr) → Option VhostErr
-first_reason [] = None
-first_reason (reason ∷ reasons) = if reason.0 then Some reason.1 else first_reason reasons
+use Rattle.tap_ground.specs.Options.{first_that_holds as first_reason}
 
 -- Reasons.
 

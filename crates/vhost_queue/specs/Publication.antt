@@ -1,19 +1,13 @@
 -- VIRTIO 1.2, 2.7.7, 2.7.8 and 2.7.10: what a device reads and writes to publish chains and to tell of notices.
 use Rattle.std.specs.Prelude.{◌≡◌, ℕ, Bool, ◌==◌, bit_and, bit_or, List, [], ◌∷◌, length, None, if◌then◌else◌}
-use Rattle.std.specs.Int.{w16, from_le_bytes, to_le_bytes}
-use Rattle.guest_mem.specs.Memory.{Contents, bytes_from, written}
+use Rattle.guest_mem.specs.Memory.{Contents, written}
+-- the 16-bit field at an address, and the memory with a number in it
+pub use Rattle.guest_mem.specs.Memory.{le16_at as field_at, with_le16 as with_field}
 use Rattle.vring_split.specs.Split.{avail_flags_addr, used_event_addr, used_flags_addr, used_idx_addr, used_entry_addr, avail_event_addr, used_elem_bytes, needs_event}
 use Rattle.vring_split.specs.declared.layout.Layout.{Layout}
 use Rattle.vhost_queue.specs.declared.done.Done.{Done}
 use Rattle.vhost_queue.specs.Positions.{after, all_published}
 use Rattle.vhost_queue.specs.Queue.{Queue}
-
--- the 16-bit field at an address, and the memory with a number in it
-unfoldable pub field_at : Contents → ℕ → ℕ
-field_at m addr = from_le_bytes w16 (bytes_from m.bytes addr 2)
-
-unfoldable pub with_field : ℕ → ℕ → Contents → Contents
-with_field addr number m = written m addr (to_le_bytes w16 number)
 
 -- the bytes of a used entry: the head, then the length
 abbrev pub entry_bytes : Done → List ℕ

@@ -9,7 +9,6 @@
 #![tactic(auto)]
 
 mod done;
-mod fields;
 mod laws;
 mod once;
 mod publish;

@@ -7,7 +7,6 @@ ghost use Rattle.vhost_queue.specs.Positions.{after, published_from};
 ghost use Rattle.vhost_queue.specs.Publication.{entry_bytes, with_entries, with_field, wants_notice, flags_with, noticed_at, StandIn};
 
 use crate::done::Done;
-use crate::fields::{field_at, write_field};
 use guest_mem::{Memory, range_laws};
 use vring_split::{Layout, UsedElem, need_event};
 
@@ -26,10 +25,7 @@ fn write_entry(mem: &mut Memory, ring: &Layout, index: u16, chain: Done)
         id: u32::from(chain.head),
         len: chain.len,
     };
-    match mem.write(ring.used_entry_addr(index), &entry.bytes()) {
-        Ok(()) => {}
-        Err(_) => unreachable!(),
-    }
+    mem.write_in(ring.used_entry_addr(index), &entry.bytes());
 }
 
 // Writes the used entries of what is done, from an index on.
@@ -56,7 +52,7 @@ pub fn write_index(mem: &mut Memory, ring: &Layout, used: u16, done: &[Done]) ->
 {
     range_laws();
     let index = used.wrapping_add(done.len() as u16);
-    write_field(mem, ring.used_idx_addr(), index);
+    mem.put_le16(ring.used_idx_addr(), index);
     index
 }
 
@@ -68,9 +64,9 @@ pub fn wants_notice(mem: &Memory, ring: &Layout, old: u16, new: u16) -> bool
 {
     range_laws();
     if ring.event {
-        need_event(field_at(mem, ring.used_event_addr()), new, old)
+        need_event(mem.le16_at(ring.used_event_addr()), new, old)
     } else {
-        field_at(mem, ring.avail_flags_addr()) & NO_INTERRUPT == 0
+        mem.le16_at(ring.avail_flags_addr()) & NO_INTERRUPT == 0
     }
 }
 
@@ -95,10 +91,10 @@ pub fn write_notices(mem: &mut Memory, ring: &Layout, next: u16, on: bool)
     range_laws();
     if !ring.event {
         let addr = ring.used_flags_addr();
-        let flags = field_at(mem, addr);
-        write_field(mem, addr, flags_with(on, flags));
+        let flags = mem.le16_at(addr);
+        mem.put_le16(addr, flags_with(on, flags));
     } else if on {
-        write_field(mem, ring.avail_event_addr(), next);
+        mem.put_le16(ring.avail_event_addr(), next);
     }
 }
 

@@ -7,7 +7,6 @@ ghost use Rattle.vhost_queue.specs.Queue.{IsGood, IsQueueSize, room_of, first_qu
 ghost use Rattle.vhost_queue.specs.Publication.{started, published_in, with_published, next_used, wants_notice, noticed_in};
 
 use crate::done::Done;
-use crate::fields::field_at;
 use crate::once::Once;
 use crate::publish::{append_published, wants_notice, write_entries, write_index, write_notices};
 use guest_mem::{Memory, range_laws};
@@ -145,7 +144,7 @@ impl Vq {
         ensures { self.new ≡ record self.old { queue = started mem.now self.old.queue } }
     {
         range_laws();
-        self.used = field_at(mem, self.layout.used_idx_addr());
+        self.used = mem.le16_at(self.layout.used_idx_addr());
         self.stopped = None;
     }
 
@@ -260,7 +259,10 @@ impl Vq {
 }
 
 impl Once for Vq {
+    ghost use Rattle.std.specs.Prelude.{ℕ, List, [], ◌∷◌, ◌++◌, take};
+    ghost use Rattle.guest_mem.specs.Memory.{Contents};
     ghost use Rattle.vhost_queue.specs.Queue.{IsGood as Good};
+    ghost use Rattle.vhost_queue.specs.Publication.{published_in as published_by, wants_notice as wants};
 
     ghost lists = { λ v. v.queue.positions };
 
@@ -272,23 +274,75 @@ impl Once for Vq {
 
     ghost may_finish = { λ _ _. Unit {0} };
 
+    ghost is_next = { λ _ _. Unit {0} };
+
+    ghost are_served = { λ v heads. length heads ≡ v.queue.positions.gathered };
+
+    ghost published = { λ v m. published_by v.queue m };
+
+    ghost wants_notice = { λ v m. wants v.queue.layout v.queue.used (next_used v.queue) m };
+
+    ghost first_may_finish = { λ _ _ _ _. tt };
+
     fn position(&self) -> u16 {
         Vq::position(self)
     }
 
-    fn served(&mut self) {
+    fn served(&mut self)
+        requires few { self.old.queue.positions.gathered < most_gathered }
+        ensures queue { self.new
+            ≡ record self.old { queue = record self.old.queue { positions = served self.old.queue.positions } } }
+        ensures lists { self.new.queue.positions ≡ served self.old.queue.positions }
+        ensures reserved { self.new.reserved ≡ self.old.reserved }
+        ensures heads { (head : ℕ) (heads : List ℕ) → Unit {0} → length heads ≡ self.old.queue.positions.gathered
+            → length (heads ++ head ∷ []) ≡ self.new.queue.positions.gathered }
+        ensures good { (m : Contents) → Good self.old.queue m → Good self.new.queue m }
+    {
         Vq::served(self);
     }
 
-    fn rewind(&mut self, count: u16) {
+    fn rewind(&mut self, count: u16)
+        requires { count ≤ self.old.queue.positions.gathered }
+        ensures queue { self.new
+            ≡ record self.old { queue = record self.old.queue { positions = rewound count self.old.queue.positions } } }
+        ensures lists { self.new.queue.positions ≡ rewound count self.old.queue.positions }
+        ensures reserved { self.new.reserved ≡ self.old.reserved }
+        ensures heads { (heads : List ℕ) → length heads ≡ self.old.queue.positions.gathered
+            → length (take (length heads - count) heads) ≡ self.new.queue.positions.gathered }
+        ensures good { (m : Contents) → Good self.old.queue m → Good self.new.queue m }
+    {
         Vq::rewind(self, count);
     }
 
-    fn done(&mut self, head: u16, len: u32) {
+    fn done(&mut self, head: u16, len: u32)
+        requires some { 0 < self.old.queue.positions.gathered }
+        requires room { 0 < room_of self.old }
+        ensures queue { self.new
+            ≡ record self.old {
+              queue = record self.old.queue { positions = with_done head len self.old.queue.positions };
+            } }
+        ensures lists { self.new.queue.positions ≡ with_done head len self.old.queue.positions }
+        ensures reserved { self.new.reserved ≡ self.old.reserved }
+        ensures heads { (heads : List ℕ) → length (head ∷ heads) ≡ self.old.queue.positions.gathered
+            → length heads ≡ self.new.queue.positions.gathered }
+        ensures good { (m : Contents) → Good self.old.queue m → Good self.new.queue m }
+    {
         Vq::done(self, head, len);
     }
 
-    fn publish(&mut self, mem: &mut Memory) -> bool {
+    fn publish(&mut self, mem: &mut Memory) -> bool
+        requires { Good self.old.queue mem.old }
+        ensures queue { self.new.queue ≡ with_published self.old.queue }
+        ensures lists { self.new.queue.positions ≡ all_published self.old.queue.positions }
+        ensures reserved { self.new.reserved ≡ self.old.reserved - length self.old.queue.positions.done }
+        ensures heads { (heads : List ℕ) → length heads ≡ self.old.queue.positions.gathered
+            → length heads ≡ self.new.queue.positions.gathered }
+        ensures memory { mem.new ≡ published_by self.old.queue mem.old }
+        ensures regions { mem.new.regions ≡ mem.old.regions }
+        ensures notice { result
+            ≡ wants self.old.queue.layout self.old.queue.used (next_used self.old.queue) mem.new }
+        ensures good { Good self.new.queue mem.new }
+    {
         Vq::publish(self, mem)
     }
 

@@ -1,5 +1,4 @@
 mod Splits
-mod Writes
 mod Takes
 mod Fetched
 mod Copied

@@ -9,14 +9,13 @@ ghost use Rattle.vring_turns.specs.ReceiveImage.{shares};
 ghost use Rattle.vhost_rx.specs.Chains.{found_behind, with_found};
 ghost use Rattle.vhost_rx.specs.Kept.{kept_shares};
 
-use crate::lay::lay;
 use guest_mem::Memory;
 use std::alloc::{AllocError, Global};
 use std::marker::Model;
 use vhost_queue::Vq;
 use vring_split::Layout;
 use vring_turns::lie_in;
-use vring_walk::{Fetched, Segment, Segments, chains_are_usable, fetch};
+use vring_walk::{Fetched, Segment, Segments, chains_are_usable, fetch, scatter};
 
 /// How many chains one frame may go into.
 const MOST_CHAINS: usize = 1024;
@@ -144,7 +143,7 @@ impl Chains {
           bytes = laid mem.old.bytes (segments_of self.now) (front.now ++ behind.now);
         } }
     {
-        lay(mem, self.room.list(), front, behind);
+        scatter(mem, self.room.list(), front, behind);
     }
 
     /// All of them are done, with the bytes that each got of so many.

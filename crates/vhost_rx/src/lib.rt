@@ -10,7 +10,7 @@
 
 mod chains;
 mod fetches;
-mod lay;
+mod front;
 mod stages;
 mod steps;
 mod ways;

@@ -8,7 +8,7 @@ ghost use Rattle.tap_ledger.specs.Queue.{IsFinal, finished, put_back};
 ghost use Rattle.vring_turns.specs.Turn.{event_of, IfMore};
 ghost use Rattle.vhost_rx.specs.Worker.{HandsOut, Ended, EndsUntold, Stepped, is_over, name_in_hand, counts_at, holds_at, IsSteady, Fits, Changes, state_of, need_in, ended_by};
 
-use crate::lay::front_of;
+use crate::front::front_of;
 use crate::worker::{RxStep, RxWorker};
 use guest_mem::Memory;
 use tap_ledger::{Act, Cause, Fate, FrameQueue, Hand};

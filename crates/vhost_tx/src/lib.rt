@@ -6,8 +6,8 @@
 //! `fits` tests. `specs/Worker.antt` says when a worker and a queue fit together.
 #![tactic(auto)]
 
+mod copying;
 mod fetches;
-mod gather;
 mod stages;
 mod steps;
 mod worker;

@@ -9,7 +9,7 @@ ghost use Rattle.vring_turns.specs.Turn.{event_of, IfMore};
 ghost use Rattle.vhost_tx.specs.Worker.{IsSteady, Fits, Changes, state_of, out_of_memory};
 ghost use Rattle.vhost_tx.specs.Copying.{counting, holding, IsRead};
 
-use crate::gather::{Judged, Reading, read_chain};
+use crate::copying::{Judged, Reading, read_chain};
 use crate::worker::{TxStep, TxWorker};
 use guest_mem::Memory;
 use tap_frame::{Frame, Name};

@@ -10,7 +10,8 @@ use Rattle.std.specs.Map.{lookup, remove_entry}
 use Rattle.std.proofs.lemmas.Bool.Decides.{nat_tests}
 use Rattle.guest_mem.specs.Memory.{Contents}
 use Rattle.vring_drive.specs.Books.{Books, numbers_from, found_out, taken_back, freed_into, head_of}
-use Rattle.vring_drive.specs.Laws.{IsWhole, StandUnderOwn, times_in, times_out, BeginsWhole, SendsWhole, TakesWhole, HarvestsWhole, AllFreeAgain}
+use Rattle.tap_ground.specs.Lists.{times as times_in}
+use Rattle.vring_drive.specs.Laws.{IsWhole, StandUnderOwn, times_out, BeginsWhole, SendsWhole, TakesWhole, HarvestsWhole, AllFreeAgain}
 use Rattle.vring_drive.specs.Harvests.{Harvest, harvest_of, used_entry, ready_count}
 use Rattle.vring_drive.proofs.Harvested.{step, step_is}
 

@@ -1,8 +1,9 @@
--- This project's own: where a driver puts a ring and its data, and the fields of a ring (VIRTIO 1.2, 2.7) in memory.
+-- This project's own: where a driver puts a ring (VIRTIO 1.2, 2.7) and its data, and positions.
 use Rattle.std.specs.Prelude.{◌≡◌, ℕ, ◌+◌, ◌-◌, ◌*◌, ◌/◌, ◌%◌, ◌^◌, Bool, ◌==◌, not, Option, Some, IsTrue, if◌then◌else◌}
-use Rattle.std.specs.Int.{w16, from_le_bytes, to_le_bytes}
 use Rattle.std.specs.Option.{option_map}
-use Rattle.guest_mem.specs.Memory.{Contents, bytes_from, written, first_bad, covers}
+use Rattle.guest_mem.specs.Memory.{Contents, first_bad, covers}
+-- the 16-bit field at an address, and the memory with a number in it
+pub use Rattle.guest_mem.specs.Memory.{le16_at as field_at, with_le16 as with_field}
 use Rattle.vring_split.specs.Split.{desc_len, avail_len, used_len}
 use Rattle.vring_split.specs.declared.layout.Layout.{Layout}
 use Rattle.vring_drive.specs.declared.error.DriveErr.{DriveErr}
@@ -58,15 +59,6 @@ abbrev pub drive_refusal : Contents → ℕ → ℕ → Option DriveErr
 drive_refusal m start num =
     if not (start % 16 == 0) then Some Unaligned else option_map Outside (first_bad m.regions start (area_len num))
 
--- Fields.
-
 -- a position further on, and how far one lies behind another; from 65,535 on to 0
 abbrev pub after : ℕ → ℕ → ℕ
 after position count = (position + count) % 2 ^ 16
-
--- the 16-bit field at an address, and the memory with a number in it
-unfoldable pub field_at : Contents → ℕ → ℕ
-field_at m addr = from_le_bytes w16 (bytes_from m.bytes addr 2)
-
-unfoldable pub with_field : ℕ → ℕ → Contents → Contents
-with_field addr number m = written m addr (to_le_bytes w16 number)

@@ -4,8 +4,8 @@ use Rattle.std.specs.Global.{Vec}
 use Rattle.guest_mem.specs.Memory.{Contents, bytes_from}
 use Rattle.vring_split.specs.Split.{used_idx_addr, used_entry_addr, used_event_addr, used_elem_of, distance}
 use Rattle.vring_split.specs.declared.used_elem.UsedElem.{UsedElem}
-use Rattle.vring_drive.specs.declared.error.OrMemory.{OrMemory}
-use Rattle.vring_drive.specs.declared.error.OrMemory.TheVariants.{Fault, NoMemory}
+use Rattle.tap_ground.specs.declared.error.OrMemory.{OrMemory}
+use Rattle.tap_ground.specs.declared.error.OrMemory.TheVariants.{Fault, NoMemory}
 use Rattle.vring_drive.specs.declared.error.StrayUsed.{StrayUsed}
 use Rattle.vring_drive.specs.Area.{field_at, with_field}
 use Rattle.vring_drive.specs.Books.{Books, ring_of, found_out, taken_back}

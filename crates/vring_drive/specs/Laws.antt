@@ -1,13 +1,9 @@
 -- This project's own: each descriptor of a driver is free, or in one chain that is out.
-use Rattle.std.specs.Prelude.{◌≡◌, ℕ, ◌+◌, ◌<◌, ◌≤◌, ◌==◌, Bool, nat_lt, List, [], ◌∷◌, length, Some, if◌then◌else◌}
+use Rattle.std.specs.Prelude.{◌≡◌, ℕ, ◌+◌, ◌<◌, ◌≤◌, Bool, nat_lt, List, [], ◌∷◌, length, Some, if◌then◌else◌}
 use Rattle.guest_mem.specs.Memory.{Contents}
 use Rattle.vring_drive.specs.Harvests.{harvested}
 use Rattle.vring_drive.specs.Books.{Books, first_books, sent_out, found_out, taken_back}
-
--- how often a number stands in a list
-abbrev pub times_in : ℕ → List ℕ → ℕ
-times_in d [] = 0
-times_in d (x ∷ xs) = (if x == d then 1 else 0) + times_in d xs
+use Rattle.tap_ground.specs.Lists.{times as times_in}
 
 -- how often a descriptor stands in chains
 abbrev pub times_out : ℕ → List (ℕ × List ℕ) → ℕ

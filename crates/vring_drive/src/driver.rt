@@ -9,16 +9,17 @@ ghost use Rattle.vring_drive.specs.Posts.{full_refusal, post_in_refusal, post_ou
 ghost use Rattle.vring_drive.specs.Harvests.{Answers, Unless, harvested, harvested_in};
 
 use crate::area::{self, area_len};
-use crate::error::{DriveErr, OrMemory, PostErr, StrayUsed};
-use crate::fields::{field_at, used_elem_at, write_field};
+use crate::error::{DriveErr, PostErr, StrayUsed};
 use crate::free::{add_all, all_below, lowest, take_lowest};
 use crate::pieces::{first_too_long, piece_count, piece_lens};
+use crate::read::used_elem_at;
 use crate::write::{fill, link, offer};
 use guest_mem::{Memory, range_laws};
 use sqlite_items::Items;
 use std::alloc::{AllocError, Global};
 use std::collections::{BTreeMap, BTreeSet};
 use std::marker::Model;
+use tap_ground::OrMemory;
 use vring_split::Layout;
 
 /// The largest count of descriptors that a refusal tells.
@@ -230,7 +231,7 @@ impl Driver {
     {
         range_laws();
         let ring = self.layout(false, false);
-        let index = field_at(mem, ring.used_idx_addr());
+        let index = mem.le16_at(ring.used_idx_addr());
         let count = index.wrapping_sub(self.used()).min(ring.num);
         let mut found = Vec::with_capacity(self.allocator(), usize::from(count)).map_err(
             |_| OrMemory::NoMemory,
@@ -243,7 +244,7 @@ impl Driver {
             found.push_reserved((entry.id, entry.len));
         }
         if ring.event {
-            write_field(mem, ring.used_event_addr(), self.used());
+            mem.put_le16(ring.used_event_addr(), self.used());
         }
         Ok(found)
     }

@@ -10,15 +10,16 @@
 mod area;
 mod driver;
 mod error;
-mod fields;
 mod free;
 mod laws;
 mod pieces;
+mod read;
 mod write;
 
 pub use crate::driver::Driver;
-pub use crate::error::{DriveErr, OrMemory, PostErr, StrayUsed};
+pub use crate::error::{DriveErr, PostErr, StrayUsed};
 pub use crate::laws::descriptors_stay_whole;
+pub use tap_ground::OrMemory;
 
 #[cfg(test)]
 mod tests;

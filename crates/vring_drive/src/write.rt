@@ -5,7 +5,6 @@ ghost use Rattle.vring_drive.specs.Area.{area_len, IsIn, IsLaidOut};
 ghost use Rattle.vring_drive.specs.Posts.{desc_for, linked, filled, offered};
 
 use crate::area::{SLOT_LEN, slot_at};
-use crate::fields::{write_bytes, write_field};
 use guest_mem::{Memory, range_laws};
 use vring_split::{Desc, Layout};
 
@@ -44,7 +43,7 @@ pub fn link(mem: &mut Memory, ring: &Layout, writable: bool, chain: &[u16], lens
     range_laws();
     for i in 0..chain.len() {
         let desc = desc_for(ring, writable, chain[i], lens[i], &chain[i + 1..]);
-        write_bytes(mem, ring.desc_addr(chain[i]), &desc.bytes());
+        mem.write_in(ring.desc_addr(chain[i]), &desc.bytes());
     }
 }
 
@@ -59,7 +58,7 @@ pub fn fill(mem: &mut Memory, ring: &Layout, chain: &[u16], bytes: &[u8])
     let mut left = bytes;
     for index in chain {
         let (piece, behind) = left.split_at(left.len().min(SLOT_LEN as usize));
-        write_bytes(mem, slot_at(ring, *index), piece);
+        mem.write_in(slot_at(ring, *index), piece);
         left = behind;
     }
 }
@@ -74,6 +73,6 @@ pub fn offer(mem: &mut Memory, ring: &Layout, place: u16, head: u16)
     ensures regions { mem.new.regions ≡ mem.old.regions }
 {
     range_laws();
-    write_field(mem, ring.avail_entry_addr(place), head);
-    write_field(mem, ring.avail_idx_addr(), place.wrapping_add(1));
+    mem.put_le16(ring.avail_entry_addr(place), head);
+    mem.put_le16(ring.avail_idx_addr(), place.wrapping_add(1));
 }

@@ -5,3 +5,4 @@ pub mod Among
 pub mod Queues
 pub mod Runs
 pub mod Usable
+pub mod Heads

@@ -6,7 +6,8 @@ use Rattle.std.proofs.lemmas.Bool.Decides.{nat_tests}
 use Rattle.std.proofs.lemmas.List.Elements.{All-from_recursion}
 use Rattle.vring_split.specs.declared.fault.RingFault.{RingFault}
 use Rattle.vring_split.specs.declared.segment.Segment.{Segment}
-use Rattle.vring_walk.specs.Chain.{Look, Cover, any_writable, first_broken}
+use Rattle.tap_ground.specs.Options.{first_that_holds as first_broken}
+use Rattle.vring_walk.specs.Chain.{Look, Cover, any_writable}
 use Rattle.vring_packed.specs.declared.desc.PackedDesc.{PackedDesc}
 use Rattle.vring_packed.specs.declared.fetched.PackedFetched.{PackedFetched}
 use Rattle.vring_packed.specs.declared.fetched.PackedFetched.TheVariants.{Crowded}

@@ -6,7 +6,8 @@ use Rattle.guest_mem.specs.Memory.{bytes_at}
 use Rattle.vring_split.specs.declared.fault.RingFault.{RingFault}
 use Rattle.vring_split.specs.declared.fault.RingFault.TheVariants.{IndirectNext, IndirectLength, Unmapped, Order, Direction, TooManySegments, IndirectOff}
 use Rattle.vring_split.specs.declared.segment.Segment.{Segment}
-use Rattle.vring_walk.specs.Chain.{Look, Cover, any_writable, is_bad_length, first_broken}
+use Rattle.tap_ground.specs.Options.{first_that_holds as first_broken}
+use Rattle.vring_walk.specs.Chain.{Look, Cover, any_writable, is_bad_length}
 use Rattle.vring_packed.specs.declared.desc.PackedDesc.{PackedDesc}
 use Rattle.vring_packed.specs.declared.layout.PackedLayout.{PackedLayout}
 use Rattle.vring_packed.specs.Packed.{desc_of, has_next, is_writable, is_indirect}

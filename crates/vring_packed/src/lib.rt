@@ -17,7 +17,6 @@ mod chain;
 mod desc;
 mod done;
 mod fetched;
-mod fields;
 mod journal;
 mod laws;
 mod layout;

@@ -4,7 +4,6 @@ ghost use Rattle.guest_mem.specs.Memory.{covers};
 ghost use Rattle.vring_packed.specs.Packed.{IsGoodFor};
 ghost use Rattle.vring_packed.specs.Publication.{places_ahead, is_among, named_place, flags_addr, wants_notice, noticed_at};
 
-use crate::fields::{field_at, write_field};
 use crate::layout::PackedLayout;
 use crate::place::Place;
 use guest_mem::{Memory, range_laws};
@@ -71,7 +70,7 @@ pub fn wants_notice(mem: &Memory, ring: &PackedLayout, from: Place, count: u64) 
     ensures { result ≡ wants_notice ring.now from count mem.now }
 {
     range_laws();
-    let mode = field_at(mem, flags_addr(ring.driver)) & MODE;
+    let mode = mem.le16_at(flags_addr(ring.driver)) & MODE;
     if mode == DISABLE {
         return false;
     }
@@ -82,7 +81,7 @@ pub fn wants_notice(mem: &Memory, ring: &PackedLayout, from: Place, count: u64) 
         ring.num,
         &from,
         count,
-        &named_place(field_at(mem, ring.driver)),
+        &named_place(mem.le16_at(ring.driver)),
     )
 }
 
@@ -94,5 +93,5 @@ pub fn set_notices(mem: &mut Memory, ring: &PackedLayout, on: bool)
 {
     range_laws();
     let flags = if on { ENABLE } else { DISABLE };
-    write_field(mem, flags_addr(ring.device), flags);
+    mem.put_le16(flags_addr(ring.device), flags);
 }

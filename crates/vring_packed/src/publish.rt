@@ -46,10 +46,7 @@ fn write_used(mem: &mut Memory, ring: &PackedLayout, place: &Place, chain: &Pack
 {
     range_laws();
     let addr = ring.ring + 16 * u64::from(place.at) + 8;
-    match mem.write(addr, &used_bytes(place.wrap, chain)) {
-        Ok(()) => {}
-        Err(_) => unreachable!(),
-    }
+    mem.write_in(addr, &used_bytes(place.wrap, chain));
 }
 
 /// Publishes chains from a place on, and gives the place behind them.

@@ -15,10 +15,8 @@ pub fn desc_at(mem: &Memory, table: u64, entries: u16, index: u16) -> PackedDesc
 {
     range_laws();
     let mut bytes = [0u8; 16];
-    match mem.read(table + 16 * u64::from(index), &mut bytes) {
-        Ok(()) => PackedDesc::of(&bytes),
-        Err(_) => unreachable!(),
-    }
+    mem.read_in(table + 16 * u64::from(index), &mut bytes);
+    PackedDesc::of(&bytes)
 }
 
 /// The entry of a ring that comes after another.

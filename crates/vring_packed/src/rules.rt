@@ -1,7 +1,8 @@
 //! The rules for a descriptor.
 ghost use Rattle.std.specs.Prelude.{◌≡◌, ◌||◌};
 ghost use Rattle.guest_mem.specs.Memory.{covers};
-ghost use Rattle.vring_walk.specs.Chain.{first_broken, is_bad_length};
+ghost use Rattle.tap_ground.specs.Options.{first_that_holds as first_broken};
+ghost use Rattle.vring_walk.specs.Chain.{is_bad_length};
 ghost use Rattle.vring_packed.specs.Chain.{segment_rules, table_rules};
 
 use crate::desc::PackedDesc;

@@ -248,10 +248,13 @@ impl PackedVq {
 }
 
 impl Once for PackedVq {
-    ghost use Rattle.std.specs.Prelude.{IsSome};
-    ghost use Rattle.guest_mem.specs.Memory.{covers};
+    ghost use Rattle.std.specs.Prelude.{ℕ, List, ◌∷◌, ◌++◌, take};
+    ghost use Rattle.guest_mem.specs.Memory.{Contents};
+    ghost use Rattle.vhost_queue.specs.Positions.{served as served_of, rewound, with_done};
     ghost use Rattle.vring_packed.specs.Packed.{IsGoodFor as Good};
-    ghost use Rattle.vring_packed.specs.Queue.{lists_of, IsEarliest};
+    ghost use Rattle.vring_packed.specs.Publication.{wants_notice as wants};
+    ghost use Rattle.vring_packed.specs.Queue.{IsNext, ids_of};
+    ghost use Rattle.vring_packed.proofs.Heads.{first_is_earliest};
 
     ghost lists = { λ v. lists_of v };
 
@@ -263,23 +266,71 @@ impl Once for PackedVq {
 
     ghost may_finish = { λ v head. IsEarliest v.served head };
 
+    ghost is_next = { λ v head. IsNext v.fetched head };
+
+    ghost are_served = { λ v heads. heads ≡ ids_of v.served };
+
+    ghost published = { λ v m. published_at v.layout v.used v.done m };
+
+    ghost wants_notice = { λ v m. wants v.layout v.used (passed v.done) m };
+
+    ghost first_may_finish = { λ v head heads is. first_is_earliest v.served head heads is };
+
     fn position(&self) -> u16 {
         PackedVq::position(self)
     }
 
-    fn served(&mut self) {
+    fn served(&mut self)
+        requires few { length self.old.served < most_gathered }
+        requires now { IsSome self.old.fetched }
+        ensures queue { self.new ≡ with_served self.old.fetched self.old }
+        ensures lists { lists_of self.new ≡ served_of (lists_of self.old) }
+        ensures reserved { self.new.reserved ≡ self.old.reserved }
+        ensures heads { (head : ℕ) (heads : List ℕ) → IsNext self.old.fetched head → heads ≡ ids_of self.old.served
+            → heads ++ head ∷ [] ≡ ids_of self.new.served }
+        ensures good { (m : Contents) → Good self.old.layout (covers m.regions)
+            → Good self.new.layout (covers m.regions) }
+    {
         PackedVq::served(self);
     }
 
-    fn rewind(&mut self, count: u16) {
+    fn rewind(&mut self, count: u16)
+        requires { count ≤ length self.old.served }
+        ensures queue { self.new ≡ with_rewound count self.old }
+        ensures lists { lists_of self.new ≡ rewound count (lists_of self.old) }
+        ensures reserved { self.new.reserved ≡ self.old.reserved }
+        ensures heads { (heads : List ℕ) → heads ≡ ids_of self.old.served
+            → take (length heads - count) heads ≡ ids_of self.new.served }
+        ensures good { (m : Contents) → Good self.old.layout (covers m.regions)
+            → Good self.new.layout (covers m.regions) }
+    {
         PackedVq::rewind(self, count);
     }
 
-    fn done(&mut self, head: u16, len: u32) {
+    fn done(&mut self, head: u16, len: u32)
+        requires earliest { IsEarliest self.old.served head }
+        requires room { 0 < room_in (lists_of self.old) self.old.reserved }
+        ensures queue { self.new ≡ with_finished self.old.served len self.old }
+        ensures lists { lists_of self.new ≡ with_done head len (lists_of self.old) }
+        ensures reserved { self.new.reserved ≡ self.old.reserved }
+        ensures heads { (heads : List ℕ) → head ∷ heads ≡ ids_of self.old.served → heads ≡ ids_of self.new.served }
+        ensures good { (m : Contents) → Good self.old.layout (covers m.regions)
+            → Good self.new.layout (covers m.regions) }
+    {
         PackedVq::done(self, head, len);
     }
 
-    fn publish(&mut self, mem: &mut Memory) -> bool {
+    fn publish(&mut self, mem: &mut Memory) -> bool
+        requires { Good self.old.layout (covers mem.old.regions) }
+        ensures queue { self.new ≡ with_published self.old }
+        ensures lists { lists_of self.new ≡ all_published (lists_of self.old) }
+        ensures reserved { self.new.reserved ≡ self.old.reserved - length (lists_of self.old).done }
+        ensures heads { (heads : List ℕ) → heads ≡ ids_of self.old.served → heads ≡ ids_of self.new.served }
+        ensures memory { mem.new ≡ published_at self.old.layout self.old.used self.old.done mem.old }
+        ensures regions { mem.new.regions ≡ mem.old.regions }
+        ensures notice { result ≡ wants self.old.layout self.old.used (passed self.old.done) mem.new }
+        ensures good { Good self.new.layout (covers mem.new.regions) }
+    {
         PackedVq::publish(self, mem)
     }
 

@@ -1,7 +1,7 @@
 //! The walk along a chain.
 ghost use Rattle.std.specs.Prelude.{◌≡◌, ◌<◌, ◌≤◌, [], Ok, Err, None, IfOk, OnOk, IfErr};
 ghost use Rattle.guest_mem.specs.Memory.{byte_at, covers};
-ghost use Rattle.vring_walk.specs.Chain.{first_broken};
+ghost use Rattle.tap_ground.specs.Options.{first_that_holds as first_broken};
 ghost use Rattle.vring_packed.specs.Packed.{IsGoodFor};
 ghost use Rattle.vring_packed.specs.Chain.{table_of, table_rules, with_segment, with_entries, with_desc};
 ghost use Rattle.vring_packed.specs.Walk.{Finds};

@@ -2,24 +2,34 @@
 ghost use Rattle.std.specs.Prelude.{◌≡◌};
 ghost use Rattle.vring_split.specs.Split.{number_of_fault};
 
+use thiserror::Error;
+
 /// What is wrong with a ring that a driver wrote: the first rule that it breaks.
-#[derive(Clone, Copy, Debug, PartialEq, Eq)]
+#[derive(Clone, Copy, Debug, PartialEq, Eq, Error)]
 pub enum RingFault {
     /// The available index is more than the queue size ahead of the last position.
+    #[error("the available index is too far ahead")]
     AvailJump,
     /// The head is not in the descriptor table.
+    #[error("the head isn't in the descriptor table")]
     HeadRange,
     /// NEXT leads out of the table that the descriptor stands in.
+    #[error("NEXT leads out of its table")]
     NextRange,
     /// The chain has more descriptors in a table than the table has entries.
+    #[error("more descriptors than the table has entries")]
     TooLong,
     /// INDIRECT stands in an indirect table.
+    #[error("INDIRECT in an indirect table")]
     Nested,
     /// INDIRECT stands beside NEXT.
+    #[error("INDIRECT beside NEXT")]
     IndirectNext,
     /// An indirect table's length is 0, no multiple of 16, or above 16,384.
+    #[error("an indirect table of a bad length")]
     IndirectLength,
     /// A table or a segment does not lie wholly in memory.
+    #[error("{len} bytes at {addr:#x} aren't in memory")]
     Unmapped {
         /// Where it starts, as an address of the guest.
         addr: u64,
@@ -27,12 +37,16 @@ pub enum RingFault {
         len: u32,
     },
     /// A readable segment comes after a writable one.
+    #[error("a readable segment after a writable one")]
     Order,
     /// A segment is readable on a receive ring, or writable on a transmit ring.
+    #[error("a segment of the wrong direction")]
     Direction,
     /// The chain has more than 1,024 segments.
+    #[error("more than 1,024 segments")]
     TooManySegments,
     /// INDIRECT is set, and the feature was not agreed on.
+    #[error("INDIRECT wasn't agreed on")]
     IndirectOff,
 }
 

@@ -9,3 +9,5 @@ mod RxFetches
 mod RxStandings
 mod TxEnds
 mod RxEnds
+mod TxReadies
+mod RxReadies

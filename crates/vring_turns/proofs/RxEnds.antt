@@ -21,9 +21,10 @@ use Rattle.vring_turns.specs.declared.stage.After.TheVariants as after
 use Rattle.vring_turns.specs.Ring.{Made, room_in, joined, told_of, found, fetches, noticed, done_in}
 use Rattle.vring_turns.specs.ReceiveImage.{need_of}
 use Rattle.vring_turns.specs.RxTurn.{RxTurn, RxState, rx_begun, quota, goes_on, rx_ring, rx_made, rewinding, rx_rewinds, rx_way, rx_outs, rx_puts_back, rx_hands, rx_with, rx_in_hand, rx_next, stage_of, rx_at, rx_closing}
-use Rattle.vring_turns.specs.RxRun.{RxMoment, IsRxRun, needed_by}
+use Rattle.vring_turns.specs.RxRun.{RxMoment, IsRxRun}
 use Rattle.vring_turns.specs.Standing.{RxStandsAt, RxStands}
-use Rattle.vring_turns.specs.Ends.{first_answer, turns_on, is_again, rx_enough, rx_ends_at, rx_ends_by, rx_end_at, rx_is_second, RxAgainAt, RxEnds, IsWholeRx, IsShortAt, AreShort}
+use Rattle.vring_turns.specs.Ends.{turns_on, is_again, rx_enough, rx_ends_at, rx_ends_by, RxAgainAt, RxEnds, IsWholeRx, IsShortAt, AreShort}
+use Rattle.vring_turns.specs.Stage.{first_answer, need_at, rx_end_at, rx_is_second}
 use Rattle.vring_turns.proofs.TxEnds.{told_stopped}
 use Rattle.vring_turns.proofs.TxRuns.{some_is}
 use Rattle.vring_turns.proofs.RxRuns.{published_made, copied_made}
@@ -31,9 +32,13 @@ use Rattle.vring_turns.proofs.Standings.{OrderLaws}
 use Rattle.vring_turns.proofs.RxFetches.{after_by, ring_by}
 use Rattle.vring_turns.proofs.RxStandings.{receive_stands}
 
+-- what ends a turn at a stage
+abbrev ending : RxStage → List End
+ending st = option_to_list (rx_end_at st)
+
 -- what a step at a stage brings about and leaves
 record Tells (st : RxStage) (s : RxState) (y : RxState × Act) : Type 0 where
-  pub ends : rx_end_at y.0.turn.stage ≡ rx_end_at st ++ rx_ends_at (rx_is_second st) y.1 s y.0
+  pub ends : ending y.0.turn.stage ≡ ending st ++ rx_ends_at (rx_is_second st) y.1 s y.0
   pub second : rx_is_second y.0.turn.stage ≡ turns_on y.1
   pub again : RxAgainAt st (rx_enough s.turn) → RxAgainAt y.0.turn.stage (rx_enough y.0.turn)
   pub short : RxStandsAt st s.turn s.queue → IsShortAt y.1 s
@@ -47,7 +52,7 @@ of_answer st s s' told x e d =
 
 -- Stages that end the turn, after a publication or without one.
 
-closing_end : (b : Bool) (e : End) → rx_end_at (if b then rx.Ended e else rx.Publish (Some e)) ≡ e ∷ []
+closing_end : (b : Bool) (e : End) → ending (if b then rx.Ended e else rx.Publish (Some e)) ≡ e ∷ []
 closing_end true e = refl
 closing_end false e = refl
 
@@ -100,7 +105,7 @@ chain_tells true s need head segments false false had =
 
 found_tells :
     (second : Bool) (s : RxState) (need : ℕ) (f : Fetched) (segments : List Segment)
-    → needed_by s.turn.header s.turn.held ≡ need
+    → need_at s.turn.header s.turn.held ≡ need
     → Tells (fetch_at second) s
     (fetched second need (goes_on s.turn.mergeable need (joined f segments (rx_ring s)).chains f) f segments s)
 found_tells second s need (Chain head) segments is =
@@ -126,7 +131,7 @@ found_tells true s need (Bad fault) segments is =
 
 fetch_tells :
     (second : Bool) (s s' : RxState) (told : Act) (need : ℕ)
-    → needed_by s.turn.header s.turn.held ≡ need
+    → need_at s.turn.header s.turn.held ≡ need
     → Some (rx_made (rewinding (rx_rewinds second (rx_way need s)) (fetches (rx_ring s) s.memory))
     (after_by second need s.turn.chains (rx_way need s)) s) ≡ Some (s', told)
     → Tells (fetch_at second) s (s', told)
@@ -177,7 +182,7 @@ copy_tells s s' told frame true e =
 -- the stage behind a packet, by whether the turn did enough
 packet_tells :
     (st : RxStage) (s : RxState) (u : RxState) (told : Act) (enough many none : Bool)
-    → rx_end_at st ≡ [] → rx_is_second st ≡ false → turns_on told ≡ false → rx_enough u.turn ≡ enough
+    → ending st ≡ [] → rx_is_second st ≡ false → turns_on told ≡ false → rx_enough u.turn ≡ enough
     → u.turn.stage
     ≡ (if enough then (if none then rx.Ended end.Again else rx.Publish (Some end.Again))
     else (if many then rx.Publish None else rx.Hand))
@@ -185,19 +190,19 @@ packet_tells :
     → (RxStandsAt st s.turn s.queue → IsShortAt told s)
     → Tells st s (u, told)
 packet_tells st s u told true many none no_end first off enough is ends short = record {
-  ends = rw (no_end, first, ends) (ap rx_end_at is ∙ closing_end none end.Again);
+  ends = rw (no_end, first, ends) (ap ending is ∙ closing_end none end.Again);
   second = ap rx_is_second is ∙ closing_second none end.Again ∙ sym off;
   again = λ h. rw is (closing_again none end.Again (rx_enough u.turn) (sym enough));
   short = short;
 }
 packet_tells st s u told false true none no_end first off enough is ends short = record {
-  ends = rw (no_end, first, ends) (ap rx_end_at is);
+  ends = rw (no_end, first, ends) (ap ending is);
   second = ap rx_is_second is ∙ sym off;
   again = λ h. rw is enough;
   short = short;
 }
 packet_tells st s u told false false none no_end first off enough is ends short = record {
-  ends = rw (no_end, first, ends) (ap rx_end_at is);
+  ends = rw (no_end, first, ends) (ap ending is);
   second = ap rx_is_second is ∙ sym off;
   again = λ h. rw is enough;
   short = short;
@@ -205,7 +210,7 @@ packet_tells st s u told false false none no_end first off enough is ends short 
 
 out_tells :
     (st : RxStage) (s s' : RxState) (told : Act) (n : ℕ) (frame : FrameValue)
-    → rx_end_at st ≡ [] → rx_is_second st ≡ false → Some (rx_outs n frame s) ≡ Some (s', told)
+    → ending st ≡ [] → rx_is_second st ≡ false → Some (rx_outs n frame s) ≡ Some (s', told)
     → Tells st s (s', told)
 out_tells st s s' told n frame no_end first e =
     let x = rx_outs n frame s in
@@ -254,10 +259,10 @@ with_tells :
 with_tells s s' told rx.Begin frame held e = cc
 with_tells s s' told rx.Hand frame held e = cc
 with_tells s s' told rx.Fetch frame held e =
-    fetch_tells false s s' told (need_of s.turn.header frame) (ap (λ o. needed_by s.turn.header o) held) e
+    fetch_tells false s s' told (need_of s.turn.header frame) (ap (λ o. need_at s.turn.header o) held) e
 with_tells s s' told rx.NoticesOn frame held e = cc
 with_tells s s' told rx.FetchAgain frame held e =
-    fetch_tells true s s' told (need_of s.turn.header frame) (ap (λ o. needed_by s.turn.header o) held) e
+    fetch_tells true s s' told (need_of s.turn.header frame) (ap (λ o. need_at s.turn.header o) held) e
 with_tells s s' told (rx.NoticesOff way) frame held e = cc
 with_tells s s' told rx.Copy frame held e =
     copy_tells s s' told frame (nat_le (need_of s.turn.header frame) (room_in s.turn.chains)) e
@@ -304,7 +309,7 @@ pub run_tells :
     (t t' : RxTurn) (q q' : Queue) (ms : List RxMoment) → IsRxRun t q ms t' q' → RxEnds t t' ms
 run_tells t t' q q' [] run =
     let P : RxTurn → Type 0 = λ u. RxEnds t u [] in
-    subst P (sym run.0) (record { ends = sym (append-nil (rx_end_at t.stage)); again = λ h. h })
+    subst P (sym run.0) (record { ends = sym (append-nil (ending t.stage)); again = λ h. h })
 run_tells t t' q q' (m ∷ ms) run =
     let P : RxTurn → Type 0 = λ u. RxEnds u t' (m ∷ ms) in
     let one = step_tells m.before m.after m.told m.hand m.before.turn.stage refl run.2 in
@@ -315,8 +320,8 @@ run_tells t t' q q' (m ∷ ms) run =
     subst P run.0 (record {
       ends = rest.ends
           ∙ (ap (λ front. front ++ rx_ends_by (rx_is_second m.after.turn.stage) ms) one.ends
-          ∙ (ap (λ back. (rx_end_at m.before.turn.stage ++ first) ++ back) later
-          ∙ append_assoc (rx_end_at m.before.turn.stage) first (rx_ends_by (turns_on m.told) ms)));
+          ∙ (ap (λ back. (ending m.before.turn.stage ++ first) ++ back) later
+          ∙ append_assoc (ending m.before.turn.stage) first (rx_ends_by (turns_on m.told) ms)));
       again = λ h. rest.again (one.again h);
     })
 
@@ -332,7 +337,7 @@ whole_ends true (Some fault) mergeable header q ms t' end (none, same, is) =
 whole_ends true None mergeable header q ms t' end (q', run, over) =
     let tells = run_tells (rx_begun mergeable header) t' q q' ms run in
     let P : RxStage → Type 0 = λ k. RxAgainAt k (rx_enough t') in
-    (sym tells.ends ∙ ap rx_end_at over, subst P over (tells.again refl))
+    (sym tells.ends ∙ ap ending over, subst P over (tells.again refl))
 
 pub all_short :
     OrderLaws → (t t' : RxTurn) (q q' : Queue) (ms : List RxMoment)

@@ -18,8 +18,8 @@ use Rattle.vring_turns.specs.Ring.{Gathered, Ring, bytes_in, room_in, joined, al
 use Rattle.vring_turns.specs.Turn.{is_enough}
 use Rattle.vring_turns.specs.ReceiveImage.{shares}
 use Rattle.vring_turns.specs.RxTurn.{RxTurn, RxState, quota, goes_on, rx_ring, rx_made, rewinding, stage_of, rx_rewinds, rx_way, rx_after_fetch, rx_after_second}
-use Rattle.vring_turns.specs.RxRun.{needed_by}
 use Rattle.vring_turns.specs.Standing.{HasRxCause, IsGathering, RxStandsAt, RxStands}
+use Rattle.vring_turns.specs.Stage.{need_at}
 use Rattle.vring_turns.proofs.TxRuns.{some_is}
 use Rattle.vring_turns.proofs.Standings.{OrderLaws, StayInOrder, IsCounted, joined_counted, joined_in_order, zero_of, few}
 
@@ -187,7 +187,7 @@ given_up laws s f segments st header g gathering at =
 chain_keeps :
     OrderLaws → (second : Bool) (s : RxState) (need head : ℕ) (segments : List Segment) (a b : Bool)
     → 0 < s.turn.header → IsCounted (rx_ring s) → IsGathering s.turn s.queue
-    → needed_by s.turn.header s.turn.held ≡ need
+    → need_at s.turn.header s.turn.held ≡ need
     → nat_le need (room_in (joined (Chain head) segments (rx_ring s)).chains) ≡ a
     → nat_le (quota s.turn.mergeable) (length (joined (Chain head) segments (rx_ring s)).chains) ≡ b
     → FetchKeeps second need
@@ -222,7 +222,7 @@ chain_keeps laws true s need head segments false false header g at is ea eb =
 found_keeps :
     OrderLaws → (second : Bool) (s : RxState) (need : ℕ) (f : Fetched) (segments : List Segment)
     → 0 < s.turn.header → IsCounted (rx_ring s) → IsGathering s.turn s.queue
-    → needed_by s.turn.header s.turn.held ≡ need
+    → need_at s.turn.header s.turn.held ≡ need
     → FetchKeeps second need (goes_on s.turn.mergeable need (joined f segments (rx_ring s)).chains f)
     (joined f segments (rx_ring s)) s
 found_keeps laws second s need (Chain head) segments header g at is =
@@ -248,7 +248,7 @@ found_keeps laws true s need (Bad fault) segments header g at is =
 pub fetch_keeps :
     OrderLaws → (second : Bool) (s s' : RxState) (told : Act) (need : ℕ)
     → 0 < s.turn.header → IsCounted (rx_ring s) → IsGathering s.turn s.queue
-    → needed_by s.turn.header s.turn.held ≡ need
+    → need_at s.turn.header s.turn.held ≡ need
     → Some (rx_made (rewinding (rx_rewinds second (rx_way need s)) (fetches (rx_ring s) s.memory))
     (after_by second need s.turn.chains (rx_way need s)) s) ≡ Some (s', told)
     → RxKeeps s.queue.positions s'.turn s'.queue

@@ -22,8 +22,9 @@ use Rattle.vring_turns.specs.Turn.{is_enough, publishes_at}
 use Rattle.vring_turns.specs.ReceiveImage.{need_of}
 use Rattle.vring_turns.specs.Hands.{Hands, MovesAt}
 use Rattle.vring_turns.specs.RxTurn.{RxTurn, RxState, overrun, rx_ring, rx_made, rewinding, rx_outs, rx_puts_back, rx_hands, rx_with, rx_in_hand, rx_next, stage_of, rx_at, rx_closing, rx_rewinds, rx_way, rx_after_fetch, rx_after_second}
-use Rattle.vring_turns.specs.RxRun.{IsRxRun, needed_by}
-use Rattle.vring_turns.specs.RxLine.{Other, Joins, Purges, Cuts, Looks, LineEvent, Makes, Meets, Does, IsKnownAt, AreMoves, own_steps, with_fate, leaves_at, left_at, left_by, line_at, line_by, back_at, back_by, has_frame, PutsBack, TellsNeed, PutsBackAt, Handles, PassesLine}
+use Rattle.vring_turns.specs.RxRun.{IsRxRun}
+use Rattle.vring_turns.specs.RxLine.{Other, Joins, Purges, Cuts, Looks, LineEvent, Makes, Meets, Does, IsKnownAt, AreMoves, own_steps, with_fate, leaves_at, left_at, left_by, line_at, line_by, back_at, back_by, PutsBack, TellsNeed, PutsBackAt, Handles, PassesLine}
+use Rattle.vring_turns.specs.Stage.{has_in_hand, need_at}
 use Rattle.vring_turns.proofs.TxRuns.{some_is}
 use Rattle.vring_turns.proofs.RxRuns.{published_made, copied_made}
 use Rattle.vring_turns.proofs.LineStages.{closing_has, closing_back, packet_has, packet_back, way_has, way_back, first_back, second_back, first_has, second_has}
@@ -58,7 +59,7 @@ of_answer s s' told x f g left more back e d =
 -- a step that leaves the frame in hand and the queue
 keeps :
     (t u : RxTurn) (f g : QueueState) (back : List FrameValue)
-    → u.held ≡ t.held → g ≡ f → f.in_hand ≡ name_of t.held → is_some t.held ≡ has_frame u.stage
+    → u.held ≡ t.held → g ≡ f → f.in_hand ≡ name_of t.held → is_some t.held ≡ has_in_hand u.stage
     → PutsBackAt u.stage u back
     → Passes t u f g [] [] back
 keeps t u f g back held same hand has puts =
@@ -115,13 +116,13 @@ hand_passes s s' told hand.NoMemory f g more back none put moves known e = cc
 made_passes :
     (s s' : RxState) (told : Act) (made : Made) (st : RxStage) (f g : QueueState) (back : List FrameValue)
     → Some (rx_made made st s) ≡ Some (s', told) → g ≡ f → f.in_hand ≡ name_of s.turn.held
-    → is_some s.turn.held ≡ has_frame st → PutsBackAt st (rx_made made st s).0.turn back
+    → is_some s.turn.held ≡ has_in_hand st → PutsBackAt st (rx_made made st s).0.turn back
     → Passes s.turn s'.turn f g [] [] back
 made_passes s s' told made st f g back e same hand has puts =
     of_answer s s' told (rx_made made st s) f g [] [] back e
     (keeps s.turn (rx_made made st s).0.turn f g back refl same hand has puts)
 
-publish_has : (o : Option End) → has_frame (elim o [ None ↦ stage.Hand | Some e ↦ stage.Ended e ]) ≡ false
+publish_has : (o : Option End) → has_in_hand (elim o [ None ↦ stage.Hand | Some e ↦ stage.Ended e ]) ≡ false
 publish_has None = refl
 publish_has (Some e) = refl
 
@@ -195,7 +196,7 @@ back_puts :
 back_puts (end.Short need had) t frame back held h put = (
   frame,
   ap (λ o. option_to_list o ++ back) held ∙ ap (λ l. frame ∷ l) put,
-  ap (λ o. needed_by t.header o) (sym held) ∙ h,
+  ap (λ o. need_at t.header o) (sym held) ∙ h,
 )
 back_puts (end.Stopped fault) t frame back held h put =
     (frame, ap (λ o. option_to_list o ++ back) held ∙ ap (λ l. frame ∷ l) put, tt)
@@ -232,7 +233,7 @@ with_passes :
     (s s' : RxState) (told : Act) (h : Hand) (st : RxStage) (frame : FrameValue) (f g : QueueState)
     (back : List FrameValue)
     → rx_with st frame s ≡ Some (s', told) → s.turn.held ≡ Some frame → f.in_hand ≡ name_of s.turn.held
-    → is_some s.turn.held ≡ has_frame st → PutsBackAt st s.turn back → MovesAt st s.turn h f g
+    → is_some s.turn.held ≡ has_in_hand st → PutsBackAt st s.turn back → MovesAt st s.turn h f g
     → Passes s.turn s'.turn f g (leaves_at st s.turn) [] (back_at st s.turn back)
 with_passes s s' told h stage.Begin frame f g back e held hand has puts moves = cc
 with_passes s s' told h stage.Hand frame f g back e held hand has puts moves = cc
@@ -253,7 +254,7 @@ with_passes s s' told h stage.FetchAgain frame f g back e held hand has puts mov
     let st = rx_after_second need s.turn.chains way in
     made_passes s s' told made st f g back e moves hand (has ∙ sym (second_has need s.turn.chains way))
     (second_back s.turn.mergeable need cs s.turn.chains (found (rx_ring s) s.memory).0 (rx_made made st s).0.turn
-    back puts (ap (λ o. needed_by s.turn.header o) held))
+    back puts (ap (λ o. need_at s.turn.header o) held))
 with_passes s s' told h (stage.NoticesOff way) frame f g back e held hand has puts moves = cc
 with_passes s s' told h stage.Copy frame f g back e held hand has puts moves =
     copy_passes s s' told frame f g back (nat_le (need_of s.turn.header frame) (room_in s.turn.chains)) e moves hand has
@@ -264,7 +265,7 @@ with_passes s s' told h stage.Out frame f g back e held hand has puts moves =
     subst P (sym held)
     (out_passes s s' told (need_of s.turn.header frame) frame Guest f g back e held (subst M held moves) puts)
 with_passes s s' told h (stage.Discard had) frame f g back e held hand has puts moves =
-    let fate : Option FrameValue → Fate = λ o. overrun s.turn.mergeable (needed_by s.turn.header o) had in
+    let fate : Option FrameValue → Fate = λ o. overrun s.turn.mergeable (need_at s.turn.header o) had in
     let P : Option FrameValue → Type 0 = λ o. Passes s.turn s'.turn f g (with_fate (fate o) o) [] back in
     let M : Option FrameValue → Type 0 =
     λ o. IfSome o (λ x. g ≡ finished x (overrun s.turn.mergeable (need_of s.turn.header x) had) f) in
@@ -279,7 +280,7 @@ held_passes :
     (s s' : RxState) (told : Act) (h : Hand) (st : RxStage) (held : Option FrameValue) (f g : QueueState)
     (more back : List FrameValue)
     → s.turn.stage ≡ st → s.turn.held ≡ held → rx_in_hand held s ≡ Some (s', told) → f.in_hand ≡ name_of s.turn.held
-    → is_some s.turn.held ≡ has_frame st → PutsBackAt st s.turn back → MovesAt st s.turn h f g → more ≡ []
+    → is_some s.turn.held ≡ has_in_hand st → PutsBackAt st s.turn back → MovesAt st s.turn h f g → more ≡ []
     → Passes s.turn s'.turn f g (leaves_at st s.turn) more (back_at st s.turn back)
 held_passes s s' told h st None f g more back at is e hand has puts moves known = cc
 held_passes s s' told h st (Some frame) f g more back at is e hand has puts moves known =
@@ -299,7 +300,7 @@ free_passes s u f g more back known p =
 step_passes :
     (s s' : RxState) (told : Act) (h : Hand) (st : RxStage) (f g : QueueState) (more back : List FrameValue)
     → s.turn.stage ≡ st → rx_next st h s ≡ Some (s', told) → f.in_hand ≡ name_of s.turn.held
-    → is_some s.turn.held ≡ has_frame st → PutsBackAt st s.turn back → MovesAt st s.turn h f g
+    → is_some s.turn.held ≡ has_in_hand st → PutsBackAt st s.turn back → MovesAt st s.turn h f g
     → IsKnownAt st h f g more
     → Passes s.turn s'.turn f g (leaves_at st s.turn) more (back_at st s.turn back)
 step_passes s s' told h stage.Begin f g more back at e hand has puts moves known =

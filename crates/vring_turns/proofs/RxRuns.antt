@@ -18,7 +18,8 @@ use Rattle.vring_turns.specs.Ring.{Gathered, Made, bytes_in, room_in, moved, fou
 use Rattle.vring_turns.specs.ReceiveImage.{need_of, shares, with_image}
 use Rattle.vring_turns.specs.RxTurn.{RxTurn, RxState, rx_ring, rx_made, rewinding, rx_outs, rx_puts_back, rx_hands, rx_with, rx_in_hand, rx_next, stage_of, rx_at, rx_closing, rx_rewinds, rx_way, rx_after_fetch, rx_after_second}
 use Rattle.vring_turns.specs.TxRun.{chains_told}
-use Rattle.vring_turns.specs.RxRun.{RxMoment, IsRxRun, done_at, packets_at, bytes_at, taken_by, needed_by, done_by, packets_by, bytes_by, RxDid}
+use Rattle.vring_turns.specs.RxRun.{RxMoment, IsRxRun, done_at, packets_at, bytes_at, taken_by, done_by, packets_by, bytes_by, RxDid}
+use Rattle.vring_turns.specs.Stage.{need_at}
 use Rattle.vring_turns.proofs.TxRuns.{some_is, told-published, told-joined, told_of_done, told_of_published}
 
 -- a step that counts nothing and is done with no chain
@@ -187,7 +188,7 @@ with_did s s' told stage.Copy frame e h =
     refl (length-shares s.turn.chains n) e)
 with_did s s' told stage.Out frame e h =
     let P : Option FrameValue → Type 0 =
-    λ o. RxDid s.turn s'.turn s.queue s'.queue [] 1 (needed_by s.turn.header o) in
+    λ o. RxDid s.turn s'.turn s.queue s'.queue [] 1 (need_at s.turn.header o) in
     subst P (sym h) (out_did s s' told (need_of s.turn.header frame) frame e)
 with_did s s' told (stage.Discard had) frame e h = out_did s s' told 0 frame e
 with_did s s' told (stage.PutBack end) frame e h =

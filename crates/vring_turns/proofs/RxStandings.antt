@@ -15,8 +15,9 @@ use Rattle.vring_turns.specs.Ring.{Made, room_in, noticed, done_in, with_all_don
 use Rattle.vring_turns.specs.Turn.{is_enough}
 use Rattle.vring_turns.specs.ReceiveImage.{need_of, shares}
 use Rattle.vring_turns.specs.RxTurn.{RxTurn, RxState, quota, rx_ring, rx_made, rx_outs, rx_puts_back, rx_hands, rx_with, rx_in_hand, rx_next, stage_of, rx_at, rx_closing}
-use Rattle.vring_turns.specs.RxRun.{RxMoment, IsRxRun, needed_by}
+use Rattle.vring_turns.specs.RxRun.{RxMoment, IsRxRun}
 use Rattle.vring_turns.specs.Standing.{HasRxCause, IsGathering, RxStandsAt, RxStands, ReceiveTurnsBegin}
+use Rattle.vring_turns.specs.Stage.{need_at}
 use Rattle.vring_turns.proofs.RxRuns.{published_made, copied_made}
 use Rattle.vring_turns.proofs.Standings.{OrderLaws, IsCounted}
 use Rattle.vring_turns.proofs.RxFetches.{length-shares, done_counted, done_in_order, closing_stands, packet_stands, some_quota, same_cause, at_stage, way_stands, of_answer, calm, fetch_keeps, RxKeeps}
@@ -146,11 +147,11 @@ with_keeps laws s s' told rx.Begin frame header g at held e = cc
 with_keeps laws s s' told rx.Hand frame header g at held e = cc
 with_keeps laws s s' told rx.Fetch frame header g at held e =
     fetch_keeps laws false s s' told (need_of s.turn.header frame) header g at
-    (ap (λ o. needed_by s.turn.header o) held) e
+    (ap (λ o. need_at s.turn.header o) held) e
 with_keeps laws s s' told rx.NoticesOn frame header g at held e = cc
 with_keeps laws s s' told rx.FetchAgain frame header g at held e =
     fetch_keeps laws true s s' told (need_of s.turn.header frame) header g at
-    (ap (λ o. needed_by s.turn.header o) held) e
+    (ap (λ o. need_at s.turn.header o) held) e
 with_keeps laws s s' told (rx.NoticesOff way) frame header g at held e = cc
 with_keeps laws s s' told rx.Copy frame header g at held e =
     copy_keeps laws s s' told frame (nat_le (need_of s.turn.header frame) (room_in s.turn.chains)) header g e

@@ -22,12 +22,17 @@ use Rattle.vring_turns.specs.Ring.{Gathered, Made, joined, told_of, found, fetch
 use Rattle.vring_turns.specs.TransmitBytes.{bytes_of_chain, refusal_of}
 use Rattle.vring_turns.specs.TxTurn.{TxTurn, TxState, tx_begun, tx_ring, tx_made, tx_done, tx_judged, tx_copies, tx_gives, tx_after_packet, tx_after_fetch, tx_after_second, tx_after_notices, tx_next}
 use Rattle.vring_turns.specs.TxRun.{Moment, IsTxRun}
-use Rattle.vring_turns.specs.Ends.{first_answer, stopped_by, turns_on, is_again, tx_enough, tx_ends_at, tx_ends_by, tx_end_at, tx_is_second, TxAgainAt, TxEnds, IsWholeTx}
+use Rattle.vring_turns.specs.Ends.{stopped_by, turns_on, is_again, tx_enough, tx_ends_at, tx_ends_by, TxAgainAt, TxEnds, IsWholeTx}
+use Rattle.vring_turns.specs.Stage.{first_answer, tx_end_at, tx_is_second}
 use Rattle.vring_turns.proofs.TxRuns.{some_is, published_made}
+
+-- what ends a turn at a stage
+abbrev ending : TxStage → List End
+ending st = option_to_list (tx_end_at st)
 
 -- what a step at a stage brings about and leaves
 record Tells (st : TxStage) (t : TxTurn) (y : TxState × Act) : Type 0 where
-  pub ends : tx_end_at y.0.turn.stage ≡ tx_end_at st ++ tx_ends_at (tx_is_second st) y.1 y.0
+  pub ends : ending y.0.turn.stage ≡ ending st ++ tx_ends_at (tx_is_second st) y.1 y.0
   pub second : tx_is_second y.0.turn.stage ≡ turns_on y.1
   pub again : TxAgainAt st (tx_enough t) → TxAgainAt y.0.turn.stage (tx_enough y.0.turn)
 
@@ -40,7 +45,7 @@ of_answer st s s' told x e d =
 
 -- Stages that end the turn, after a publication or without one.
 
-closing_end : (b : Bool) (e : End) → tx_end_at (if b then tx.Ended e else tx.Publish (Some e)) ≡ e ∷ []
+closing_end : (b : Bool) (e : End) → ending (if b then tx.Ended e else tx.Publish (Some e)) ≡ e ∷ []
 closing_end true e = refl
 closing_end false e = refl
 
@@ -175,26 +180,26 @@ off_tells (Some fault) s =
 -- the stage behind a packet, by whether the turn did enough
 packet_tells :
     (st : TxStage) (t : TxTurn) (u : TxState) (told : Act) (enough many none : Bool)
-    → tx_end_at st ≡ [] → tx_is_second st ≡ false → turns_on told ≡ false → tx_enough u.turn ≡ enough
+    → ending st ≡ [] → tx_is_second st ≡ false → turns_on told ≡ false → tx_enough u.turn ≡ enough
     → u.turn.stage
     ≡ (if enough then (if none then tx.Ended end.Again else tx.Publish (Some end.Again))
     else (if many then tx.Publish None else tx.Fetch))
     → tx_ends_at false told u ≡ (if enough then end.Again ∷ [] else [])
     → Tells st t (u, told)
 packet_tells st t u told true many none no_end first off enough is ends =
-    let P : TxStage → Type 0 = λ k. tx_end_at k ≡ tx_end_at st ++ tx_ends_at (tx_is_second st) told u in
+    let P : TxStage → Type 0 = λ k. ending k ≡ ending st ++ tx_ends_at (tx_is_second st) told u in
     record {
-      ends = rw (no_end, first, ends) (ap tx_end_at is ∙ closing_end none end.Again);
+      ends = rw (no_end, first, ends) (ap ending is ∙ closing_end none end.Again);
       second = ap tx_is_second is ∙ closing_second none end.Again ∙ sym off;
       again = λ h. rw is (closing_again none end.Again (tx_enough u.turn) (sym enough));
     }
 packet_tells st t u told false true none no_end first off enough is ends = record {
-  ends = rw (no_end, first, ends) (ap tx_end_at is);
+  ends = rw (no_end, first, ends) (ap ending is);
   second = ap tx_is_second is ∙ sym off;
   again = λ h. rw is enough;
 }
 packet_tells st t u told false false none no_end first off enough is ends = record {
-  ends = rw (no_end, first, ends) (ap tx_end_at is);
+  ends = rw (no_end, first, ends) (ap ending is);
   second = ap tx_is_second is ∙ sym off;
   again = λ h. rw is enough;
 }
@@ -289,7 +294,7 @@ pub run_tells :
     (t t' : TxTurn) (q q' : Queue) (ms : List Moment) → IsTxRun t q ms t' q' → TxEnds t t' ms
 run_tells t t' q q' [] run =
     let P : TxTurn → Type 0 = λ u. TxEnds t u [] in
-    subst P (sym run.0) (record { ends = sym (append-nil (tx_end_at t.stage)); again = λ h. h })
+    subst P (sym run.0) (record { ends = sym (append-nil (ending t.stage)); again = λ h. h })
 run_tells t t' q q' (m ∷ ms) run =
     let P : TxTurn → Type 0 = λ u. TxEnds u t' (m ∷ ms) in
     let one = step_tells m.before m.after m.told m.before.turn.stage run.2 in
@@ -300,9 +305,9 @@ run_tells t t' q q' (m ∷ ms) run =
       ends = rest.ends
           ∙ (ap (λ front. front ++ tx_ends_by (tx_is_second m.after.turn.stage) ms) one.ends
           ∙ (ap (λ back.
-          (tx_end_at m.before.turn.stage
+          (ending m.before.turn.stage
           ++ tx_ends_at (tx_is_second m.before.turn.stage) m.told m.after) ++ back) later
-          ∙ append_assoc (tx_end_at m.before.turn.stage)
+          ∙ append_assoc (ending m.before.turn.stage)
           (tx_ends_at (tx_is_second m.before.turn.stage) m.told m.after) (tx_ends_by (turns_on m.told) ms)));
       again = λ h. rest.again (one.again h);
     })
@@ -318,4 +323,4 @@ whole_ends true (Some fault) header first q ms t' end (none, same, is) = (rw (no
 whole_ends true None header first q ms t' end (q', run, over) =
     let tells = run_tells (tx_begun header first) t' q q' ms run in
     let P : TxStage → Type 0 = λ k. TxAgainAt k (tx_enough t') in
-    (sym tells.ends ∙ ap tx_end_at over, subst P over (tells.again refl))
+    (sym tells.ends ∙ ap ending over, subst P over (tells.again refl))

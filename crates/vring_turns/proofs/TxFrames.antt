@@ -19,7 +19,8 @@ use Rattle.vring_turns.specs.Ring.{Gathered, Made, found, fetches, noticed, done
 use Rattle.vring_turns.specs.Turn.{is_enough, publishes_at}
 use Rattle.vring_turns.specs.TransmitBytes.{bytes_of_chain, refusal_of}
 use Rattle.vring_turns.specs.TxTurn.{TxTurn, TxState, tx_ring, tx_made, tx_done, tx_judged, tx_copies, tx_gives, tx_closing, tx_after_packet, tx_after_fetch, tx_after_second, tx_after_notices, tx_next}
-use Rattle.vring_turns.specs.TxRun.{Moment, IsTxRun, accepts_at, gives_at, accepted_by, given_by, is_giving, HoldsRightly, PassesFrames}
+use Rattle.vring_turns.specs.TxRun.{Moment, IsTxRun, accepts_at, gives_at, accepted_by, given_by, HoldsRightly, PassesFrames}
+use Rattle.vring_turns.specs.Stage.{is_giving}
 use Rattle.vring_turns.proofs.TxRuns.{some_is, published_made}
 
 -- Stages at which nothing is given.

@@ -9,7 +9,7 @@ use Rattle.tap_ledger.specs.declared.act.Act.{Act}
 use Rattle.tap_ledger.specs.declared.act.Act.TheVariants as act
 use Rattle.vhost_queue.specs.Queue.{Queue}
 use Rattle.vring_turns.specs.declared.end.End.{End}
-use Rattle.vring_turns.specs.declared.end.End.TheVariants.{Idle, Short, Again, Stopped, Off}
+use Rattle.vring_turns.specs.declared.end.End.TheVariants.{Idle, Short, Again, Stopped}
 use Rattle.vring_turns.specs.declared.stage.TxStage.{TxStage}
 use Rattle.vring_turns.specs.declared.stage.TxStage.TheVariants as tx
 use Rattle.vring_turns.specs.declared.stage.RxStage.{RxStage}
@@ -17,19 +17,12 @@ use Rattle.vring_turns.specs.declared.stage.RxStage.TheVariants as rx
 use Rattle.vring_turns.specs.declared.stage.After.TheVariants as after
 use Rattle.vring_turns.specs.Ring.{room_in}
 use Rattle.vring_turns.specs.Turn.{is_enough}
+use Rattle.vring_turns.specs.Stage.{first_answer, tx_end_at, tx_is_second, need_at, rx_end_at, rx_is_second}
 use Rattle.vring_turns.specs.TxTurn.{TxTurn, TxState, tx_begun}
 use Rattle.vring_turns.specs.TxRun.{Moment, IsTxRun}
 use Rattle.vring_turns.specs.RxTurn.{RxTurn, RxState, rx_begun}
-use Rattle.vring_turns.specs.RxRun.{RxMoment, IsRxRun, needed_by}
+use Rattle.vring_turns.specs.RxRun.{RxMoment, IsRxRun}
 use Rattle.vring_turns.specs.Standing.{RxStands, IsGathering}
-
--- Before the first step.
-
--- a turn does nothing where its ring has no backend, or is stopped since that was set
-abbrev pub first_answer : Bool → Option RingFault → Option End
-first_answer false stopped = Some Off
-first_answer true (Some fault) = Some (Stopped fault)
-first_answer true None = None
 
 -- What a step tells.
 
@@ -71,28 +64,23 @@ abbrev pub tx_ends_by : Bool → List Moment → List End
 tx_ends_by second [] = []
 tx_ends_by second (m ∷ ms) = tx_ends_at second m.told m.after ++ tx_ends_by (turns_on m.told) ms
 
--- the end that a turn has, or is about to have
-abbrev pub tx_end_at : TxStage → List End
-tx_end_at (tx.NoticesOff (Some fault)) = Stopped fault ∷ []
-tx_end_at (tx.Publish (Some end)) = end ∷ []
-tx_end_at (tx.Ended end) = end ∷ []
-tx_end_at other = []
-
 -- it is Again exactly where the turn did enough; a frame may have to be given before that
 abbrev pub TxAgainAt : TxStage → Bool → Type 0
+TxAgainAt tx.Begin enough = enough ≡ false
+TxAgainAt tx.Fetch enough = enough ≡ false
+TxAgainAt tx.NoticesOn enough = enough ≡ false
+TxAgainAt tx.FetchAgain enough = enough ≡ false
+TxAgainAt (tx.NoticesOff fault) enough = enough ≡ false
+TxAgainAt tx.Copy enough = enough ≡ false
+TxAgainAt tx.Give enough = Unit {0}
+TxAgainAt (tx.Publish None) enough = enough ≡ false
 TxAgainAt (tx.Publish (Some end)) enough = is_again end ≡ enough
 TxAgainAt (tx.Ended end) enough = is_again end ≡ enough
-TxAgainAt tx.Give enough = Unit {0}
-TxAgainAt other enough = enough ≡ false
-
--- a step is the second of two fetches
-abbrev pub tx_is_second : TxStage → Bool
-tx_is_second tx.FetchAgain = true
-tx_is_second other = false
 
 -- what ends a turn is what was to end it before, or what its steps brought about; no two of them bring about an end
 pub record TxEnds (t t' : TxTurn) (ms : List Moment) : Type 0 where
-  pub ends : tx_end_at t'.stage ≡ tx_end_at t.stage ++ tx_ends_by (tx_is_second t.stage) ms
+  pub ends : option_to_list (tx_end_at t'.stage)
+      ≡ option_to_list (tx_end_at t.stage) ++ tx_ends_by (tx_is_second t.stage) ms
   pub again : TxAgainAt t.stage (tx_enough t) → TxAgainAt t'.stage (tx_enough t')
 
 -- every run does so
@@ -125,7 +113,7 @@ rx_enough t = is_enough t.packets t.bytes t.handled
 abbrev pub rx_ends_at : Bool → Act → RxState → RxState → List End
 rx_ends_at second act.NotReady was left = Idle ∷ []
 rx_ends_at second act.Nothing was left =
-    if second then Short (needed_by was.turn.header was.turn.held) (room_in was.turn.chains) ∷ [] else []
+    if second then Short (need_at was.turn.header was.turn.held) (room_in was.turn.chains) ∷ [] else []
 rx_ends_at second (act.Halt number) was left = stopped_by number left.queue.stopped
 rx_ends_at second (act.Out name) was left = again_where (rx_enough left.turn)
 rx_ends_at second other was left = []
@@ -134,28 +122,28 @@ abbrev pub rx_ends_by : Bool → List RxMoment → List End
 rx_ends_by second [] = []
 rx_ends_by second (m ∷ ms) = rx_ends_at second m.told m.before m.after ++ rx_ends_by (turns_on m.told) ms
 
-abbrev pub rx_end_at : RxStage → List End
-rx_end_at (rx.NoticesOff (after.PutBack end)) = end ∷ []
-rx_end_at (rx.PutBack end) = end ∷ []
-rx_end_at (rx.Publish (Some end)) = end ∷ []
-rx_end_at (rx.Ended end) = end ∷ []
-rx_end_at other = []
-
 -- it is Again exactly where the turn did enough; a frame may have to go out before that
 abbrev pub RxAgainAt : RxStage → Bool → Type 0
+RxAgainAt rx.Begin enough = enough ≡ false
+RxAgainAt rx.Hand enough = enough ≡ false
+RxAgainAt rx.Fetch enough = enough ≡ false
+RxAgainAt rx.NoticesOn enough = enough ≡ false
+RxAgainAt rx.FetchAgain enough = enough ≡ false
+RxAgainAt (rx.NoticesOff after.Fetch) enough = enough ≡ false
+RxAgainAt (rx.NoticesOff after.Copy) enough = enough ≡ false
+RxAgainAt (rx.NoticesOff (after.Discard had)) enough = enough ≡ false
 RxAgainAt (rx.NoticesOff (after.PutBack end)) enough = is_again end ≡ enough
+RxAgainAt rx.Copy enough = enough ≡ false
+RxAgainAt rx.Out enough = Unit {0}
+RxAgainAt (rx.Discard had) enough = enough ≡ false
 RxAgainAt (rx.PutBack end) enough = is_again end ≡ enough
+RxAgainAt (rx.Publish None) enough = enough ≡ false
 RxAgainAt (rx.Publish (Some end)) enough = is_again end ≡ enough
 RxAgainAt (rx.Ended end) enough = is_again end ≡ enough
-RxAgainAt rx.Out enough = Unit {0}
-RxAgainAt other enough = enough ≡ false
-
-abbrev pub rx_is_second : RxStage → Bool
-rx_is_second rx.FetchAgain = true
-rx_is_second other = false
 
 pub record RxEnds (t t' : RxTurn) (ms : List RxMoment) : Type 0 where
-  pub ends : rx_end_at t'.stage ≡ rx_end_at t.stage ++ rx_ends_by (rx_is_second t.stage) ms
+  pub ends : option_to_list (rx_end_at t'.stage)
+      ≡ option_to_list (rx_end_at t.stage) ++ rx_ends_by (rx_is_second t.stage) ms
   pub again : RxAgainAt t.stage (rx_enough t) → RxAgainAt t'.stage (rx_enough t')
 
 abbrev pub ReceiveTurnsTell : Type 0

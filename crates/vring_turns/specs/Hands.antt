@@ -3,7 +3,8 @@ use Rattle.std.specs.Prelude.{◌≡◌, ◌≤◌, ◌↔◌, [], IfSome, IsTru
 use Rattle.tap_ledger.specs.declared.fate.Fate.TheVariants.{Guest}
 use Rattle.tap_ledger.specs.declared.hand.Hand.{Hand}
 use Rattle.tap_ledger.specs.declared.hand.Hand.TheVariants.{Off}
-use Rattle.tap_ledger.specs.Queue.{QueueState, Extends, Rose, with_handed, name_handed, IfNotReady, put_back, finished}
+use Rattle.tap_ground.specs.Counts.{Rose}
+use Rattle.tap_ledger.specs.Queue.{QueueState, Extends, with_handed, name_handed, IfNotReady, put_back, finished}
 use Rattle.vring_turns.specs.declared.stage.RxStage.{RxStage}
 use Rattle.vring_turns.specs.declared.stage.RxStage.TheVariants as stage
 use Rattle.vring_turns.specs.ReceiveImage.{need_of}

@@ -2,6 +2,7 @@ pub mod Ring
 pub mod ReceiveImage
 pub mod TransmitBytes
 pub mod Turn
+pub mod Stage
 pub mod TxTurn
 pub mod TxRun
 pub mod RxTurn
@@ -16,5 +17,6 @@ pub mod TxCases
 pub mod RxLine
 pub mod Publications
 pub mod Standing
+pub mod Ready
 pub mod Ends
 pub mod EndExamples

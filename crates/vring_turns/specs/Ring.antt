@@ -3,11 +3,13 @@
 use Rattle.std.specs.Prelude.{ℕ, ◌+◌, ◌-◌, ◌==◌, Bool, not, ◌||◌, List, [], ◌∷◌, ◌++◌, length, All, IsTrue, Option, None, Some, if◌then◌else◌}
 use Rattle.guest_mem.specs.Memory.{Contents, byte_at, covers}
 use Rattle.vring_split.specs.declared.fault.RingFault.{RingFault}
+use Rattle.vring_split.specs.declared.layout.Layout.{Layout}
 use Rattle.vring_split.specs.declared.segment.Segment.{Segment}
 use Rattle.vring_split.specs.Split.{number_of_fault}
 use Rattle.vring_walk.specs.declared.walk.Fetched.{Fetched}
 use Rattle.vring_walk.specs.declared.walk.Fetched.TheVariants.{Chain, Nothing, Bad, Crowded}
 use Rattle.vring_walk.specs.Fetched.{fetched}
+pub use Rattle.vring_walk.specs.Spread.{bytes_in}
 use Rattle.vhost_queue.specs.declared.done.Done.{Done}
 use Rattle.vhost_queue.specs.Positions.{Positions, before, served, rewound, with_done}
 use Rattle.vhost_queue.specs.Queue.{Queue}
@@ -30,11 +32,6 @@ pub record Made : Type 0 where
   pub ring : Ring
   pub memory : Contents
   pub told : Act
-
--- how many bytes segments have
-abbrev pub bytes_in : List Segment → ℕ
-bytes_in [] = 0
-bytes_in (s ∷ ss) = s.len + bytes_in ss
 
 -- the segments of chains, one after the other
 abbrev pub segments_of : List Gathered → List Segment
@@ -78,10 +75,21 @@ noticed on r m = record {
 
 -- Fetches.
 
--- 2.7.13: what is found at the next position, where the chains that are gathered leave places for segments
+-- 2.7.13: what is found at a position, where these chains leave places for segments
+abbrev pub found_behind : List Gathered → Contents → Layout → ℕ → Fetched × List Segment
+found_behind chains m l position =
+    fetched (byte_at m) (covers m.regions) l position (1024 - length (segments_of chains))
+
+-- what is found at the next position
 abbrev pub found : Ring → Contents → Fetched × List Segment
-found r m =
-    fetched (byte_at m) (covers m.regions) r.queue.layout r.queue.positions.next (1024 - length (segments_of r.chains))
+found r m = found_behind r.chains m r.queue.layout r.queue.positions.next
+
+-- the chains with the one that was found, if one was
+abbrev pub with_found : Fetched → List Segment → List Gathered → List Gathered
+with_found (Chain head) segments chains = chains ++ record { head = head; segments = segments } ∷ []
+with_found Nothing segments chains = chains
+with_found Crowded segments chains = chains
+with_found (Bad fault) segments chains = chains
 
 -- a fault stops the ring
 abbrev pub halted : RingFault → Ring → Ring
@@ -89,8 +97,7 @@ halted fault r = record r { queue = record r.queue { stopped = Some fault } }
 
 -- the ring after a fetch: a chain is gathered, a fault stops it, and else it stays
 abbrev pub joined : Fetched → List Segment → Ring → Ring
-joined (Chain head) segments r =
-    moved served (r.chains ++ record { head = head; segments = segments } ∷ []) r
+joined (Chain head) segments r = moved served (with_found (Chain head) segments r.chains) r
 joined Nothing segments r = r
 joined Crowded segments r = r
 joined (Bad fault) segments r = halted fault r

@@ -15,7 +15,8 @@ use Rattle.vring_turns.specs.declared.stage.RxStage.TheVariants as stage
 use Rattle.vring_turns.specs.declared.stage.After.TheVariants as after
 use Rattle.vring_turns.specs.ReceiveImage.{need_of}
 use Rattle.vring_turns.specs.RxTurn.{RxTurn, overrun}
-use Rattle.vring_turns.specs.RxRun.{RxMoment, IsRxRun, needed_by}
+use Rattle.vring_turns.specs.RxRun.{RxMoment, IsRxRun}
+use Rattle.vring_turns.specs.Stage.{has_in_hand, need_at}
 use Rattle.vring_turns.specs.Hands.{Moves}
 
 -- What happens.
@@ -75,7 +76,7 @@ with_fate fate (Some frame) = (frame, fate) ∷ []
 
 abbrev pub leaves_at : RxStage → RxTurn → List (FrameValue × Fate)
 leaves_at stage.Out t = with_fate Guest t.held
-leaves_at (stage.Discard had) t = with_fate (overrun t.mergeable (needed_by t.header t.held) had) t.held
+leaves_at (stage.Discard had) t = with_fate (overrun t.mergeable (need_at t.header t.held) had) t.held
 leaves_at other t = []
 
 -- and in an event: what is purged leaves it, too
@@ -124,30 +125,33 @@ PutsBack other size back = back ≡ []
 
 -- what is to be put back as too short is the frame in hand
 abbrev pub TellsNeed : End → RxTurn → Type 0
-TellsNeed (end.Short need had) t = needed_by t.header t.held ≡ need
+TellsNeed (end.Short need had) t = need_at t.header t.held ≡ need
 TellsNeed (end.Stopped fault) t = Unit {0}
 TellsNeed other t = ⊥
 
 -- what a stage says of the frames that were put back
 abbrev pub PutsBackAt : RxStage → RxTurn → List FrameValue → Type 0
+PutsBackAt stage.Begin t back = back ≡ []
+PutsBackAt stage.Hand t back = back ≡ []
+PutsBackAt stage.Fetch t back = back ≡ []
+PutsBackAt stage.NoticesOn t back = back ≡ []
+PutsBackAt stage.FetchAgain t back = back ≡ []
+PutsBackAt (stage.NoticesOff after.Fetch) t back = back ≡ []
+PutsBackAt (stage.NoticesOff after.Copy) t back = back ≡ []
+PutsBackAt (stage.NoticesOff (after.Discard had)) t back = back ≡ []
 PutsBackAt (stage.NoticesOff (after.PutBack end)) t back = TellsNeed end t × (back ≡ [])
+PutsBackAt stage.Copy t back = back ≡ []
+PutsBackAt stage.Out t back = back ≡ []
+PutsBackAt (stage.Discard had) t back = back ≡ []
 PutsBackAt (stage.PutBack end) t back = TellsNeed end t × (back ≡ [])
+PutsBackAt (stage.Publish None) t back = back ≡ []
 PutsBackAt (stage.Publish (Some end)) t back = PutsBack end t.header back
 PutsBackAt (stage.Ended end) t back = PutsBack end t.header back
-PutsBackAt other t back = back ≡ []
-
--- a turn has a frame in hand from the step that takes it to the one that lets it out or puts it back
-abbrev pub has_frame : RxStage → Bool
-has_frame stage.Begin = false
-has_frame stage.Hand = false
-has_frame (stage.Publish end) = false
-has_frame (stage.Ended end) = false
-has_frame other = true
 
 -- a turn holds a frame where its stage says so, the one that the queue has in hand, and has put back what it says; so
 -- does one that begins, with none in hand and none put back
 pub record Handles (t : RxTurn) (f : QueueState) (back : List FrameValue) : Type 0 where
-  pub holds : is_some t.held ≡ has_frame t.stage
+  pub holds : is_some t.held ≡ has_in_hand t.stage
   pub in_hand : f.in_hand ≡ option_map (λ frame. frame.name) t.held
   pub puts_back : PutsBackAt t.stage t back
 

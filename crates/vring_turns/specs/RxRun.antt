@@ -8,6 +8,7 @@ use Rattle.vhost_queue.specs.Queue.{Queue}
 use Rattle.vring_turns.specs.declared.stage.RxStage.{RxStage}
 use Rattle.vring_turns.specs.declared.stage.RxStage.TheVariants as stage
 use Rattle.vring_turns.specs.Ring.{Gathered}
+use Rattle.vring_turns.specs.Stage.{need_at}
 use Rattle.vring_turns.specs.ReceiveImage.{need_of, shares}
 use Rattle.vring_turns.specs.RxTurn.{RxTurn, RxState, rx_step}
 use Rattle.vring_turns.specs.TxRun.{chains_told}
@@ -43,12 +44,8 @@ packets_at stage.Out = 1
 packets_at (stage.Discard had) = 1
 packets_at other = 0
 
-abbrev pub needed_by : ℕ → Option FrameValue → ℕ
-needed_by size None = 0
-needed_by size (Some frame) = need_of size frame
-
 abbrev pub bytes_at : RxStage → RxTurn → ℕ
-bytes_at stage.Out t = needed_by t.header t.held
+bytes_at stage.Out t = need_at t.header t.held
 bytes_at other t = 0
 
 -- the same over steps

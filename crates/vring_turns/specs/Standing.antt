@@ -16,7 +16,8 @@ use Rattle.vring_turns.specs.Turn.{is_enough}
 use Rattle.vring_turns.specs.TxTurn.{TxTurn, tx_begun}
 use Rattle.vring_turns.specs.TxRun.{Moment, IsTxRun}
 use Rattle.vring_turns.specs.RxTurn.{RxTurn, rx_begun, quota}
-use Rattle.vring_turns.specs.RxRun.{RxMoment, IsRxRun, needed_by}
+use Rattle.vring_turns.specs.RxRun.{RxMoment, IsRxRun}
+use Rattle.vring_turns.specs.Stage.{need_at}
 
 -- no chain is gathered
 abbrev pub HasNone : List Gathered → Type 0
@@ -84,7 +85,7 @@ HasRxCause end.NoMemory t q = ⊥
 -- the chains that are gathered are fewer than a frame may go into, and too short for the one in hand
 pub record IsGathering (t : RxTurn) (q : Queue) : Type 0 where
   pub fewer : length t.chains < quota t.mergeable
-  pub short : room_in t.chains < needed_by t.header t.held
+  pub short : room_in t.chains < need_at t.header t.held
   pub few_done : done_in q < 64
 
 -- chains are gathered from the first fetch for a frame to its copy, or to where they are given up; a turn that is over

@@ -1,5 +1,5 @@
 -- This project's own: what a whole transmit turn did, over the list of its steps.
-use Rattle.std.specs.Prelude.{◌≡◌, ℕ, ◌+◌, List, [], ◌∷◌, ◌++◌, length, map, Bool, true, false, is_some, Some}
+use Rattle.std.specs.Prelude.{◌≡◌, ℕ, ◌+◌, List, [], ◌∷◌, ◌++◌, length, map, is_some, Some}
 use Rattle.std.specs.Option.{option_to_list}
 use Rattle.tap_frame.specs.Frame.{FrameValue}
 use Rattle.tap_ledger.specs.declared.act.Act.{Act}
@@ -8,6 +8,7 @@ use Rattle.vring_turns.specs.declared.stage.TxStage.{TxStage}
 use Rattle.vring_turns.specs.declared.stage.TxStage.TheVariants.{Copy, Give}
 use Rattle.vring_turns.specs.Ring.{Gathered}
 use Rattle.vring_turns.specs.TransmitBytes.{counted}
+use Rattle.vring_turns.specs.Stage.{is_giving}
 use Rattle.vring_turns.specs.TxTurn.{TxTurn, TxState, tx_step}
 
 -- a step of a turn: what it began with, what it told, and what it left
@@ -79,10 +80,6 @@ given_by [] = []
 given_by (m ∷ ms) = gives_at m.before.turn.stage m.before ++ given_by ms
 
 -- a turn holds a frame where it is to give one, and else none
-abbrev pub is_giving : TxStage → Bool
-is_giving Give = true
-is_giving other = false
-
 abbrev pub HoldsRightly : TxTurn → Type 0
 HoldsRightly t = is_some t.held ≡ is_giving t.stage
 

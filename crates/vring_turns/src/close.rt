@@ -1,6 +1,6 @@
 //! How a turn of either kind answers at once, and how it closes.
 ghost use Rattle.std.specs.Prelude.{◌≡◌, ◌==◌, Some, if◌then◌else◌};
-ghost use Rattle.vring_turns.specs.Ends.{first_answer as answered};
+ghost use Rattle.vring_turns.specs.Stage.{first_answer as answered};
 ghost use Rattle.vring_turns.specs.Ring.{done_in};
 ghost use Rattle.vring_turns.specs.declared.end.End.{End as Ending};
 

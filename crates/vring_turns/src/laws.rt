@@ -5,6 +5,7 @@ ghost use Rattle.vring_turns.specs.RxRun.{ReceiveTurnsDo};
 ghost use Rattle.vring_turns.specs.Publications.{TransmitTurnsPublish, ReceiveTurnsPublish};
 ghost use Rattle.vring_turns.specs.RxLine.{ReceiveTurnsPass};
 ghost use Rattle.vring_turns.specs.Standing.{TransmitTurnsBegin, TransmitTurnsStand, TransmitTurnsKeepOrder, ReceiveTurnsBegin, ReceiveTurnsStand, ReceiveTurnsKeepOrder};
+ghost use Rattle.vring_turns.specs.Ready.{TransmitTurnsBeginReady, TransmitTurnsStayReady, TransmitTurnsGoOn, NoChainIsCrowded, ReceiveTurnsBeginReady, ReceiveTurnsStayReady, ReceiveTurnsGoOn};
 ghost use Rattle.vring_turns.specs.Ends.{TransmitTurnsTell, TransmitTurnsEnd, ReceiveTurnsTell, ReceiveTurnsEnd, ReceiveTurnsAreShort};
 ghost use Rattle.vring_turns.specs.RxExamples.{TwoChainsTakeIt, OneChainIsShort, OneChainOverruns, BadTableStops, NoChainIsShort};
 
@@ -50,6 +51,26 @@ pub fn receive_standing()
     ensures begins { ReceiveTurnsBegin }
     ensures stands { ReceiveTurnsStand }
     ensures order { ReceiveTurnsKeepOrder }
+{
+    positions_stay_in_order();
+}
+
+/// A transmit turn has ready what its next step needs, whatever others write into the memory between its steps,
+/// and until it is over there is one: no fetch finds too few places for a chain, and a frame is given where the
+/// host has room.
+pub fn transmit_ready()
+    ensures begins { TransmitTurnsBeginReady }
+    ensures stays { TransmitTurnsStayReady }
+    ensures goes_on { NoChainIsCrowded → TransmitTurnsGoOn }
+{}
+
+/// A receive turn has ready what its next step needs, whatever others write into the memory between its steps,
+/// and until it is over there is one, where the queue of frames that is asked for one hands it out or has none
+/// ready.
+pub fn receive_ready()
+    ensures begins { ReceiveTurnsBeginReady }
+    ensures stays { ReceiveTurnsStayReady }
+    ensures goes_on { ReceiveTurnsGoOn }
 {
     positions_stay_in_order();
 }

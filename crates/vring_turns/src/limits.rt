@@ -2,15 +2,17 @@
 ghost use Rattle.std.specs.Prelude.{◌≡◌, nat_le};
 ghost use Rattle.vring_turns.specs.Turn.{is_enough as enough, publishes_at};
 
-/// How many packets, bytes and chains one turn handles.
-const MOST_PACKETS: u32 = 256;
+/// How many packets one turn handles.
+pub const MOST_PACKETS: u32 = 256;
 
-const MOST_BYTES: u64 = 524_288;
+/// How many bytes of packets one turn handles.
+pub const MOST_BYTES: u64 = 524_288;
 
-const MOST_CHAINS: u32 = 1024;
+/// How many chains one turn handles.
+pub const MOST_CHAINS: u32 = 1024;
 
 /// How many chains that are done are published between two packets.
-const PUBLISHES_AT: u16 = 64;
+pub const PUBLISHES_AT: u16 = 64;
 
 /// Whether a turn that handled so many packets, bytes and chains did as much as one turn does.
 pub fn is_enough(packets: u32, bytes: u64, chains: u32) -> bool

@@ -100,7 +100,7 @@ module _ (look : Look) (covers : Cover) (l : Layout) where
       by_room true t = let le = fits (length segments) places t in (segments, chain, omega arith, refl)
       by_room false t = let gt = over (length segments) places t in ((avail_head look l position, segments, chain, omega arith), append-nil old)
 
-  fetched_so : (position places : ℕ) (old : List Segment) → places + length old ≡ 1024
+  pub fetched_so : (position places : ℕ) (old : List Segment) → places + length old ≡ 1024
       → Fetches look covers l position old (fetched look covers l position places).0 (old ++ (fetched look covers l position places).1)
   unfolding fetched
   fetched_so position places old sum = by_tests (eqb index position) (nat_lt l.num (distance position index)) (nat_le l.num head) refl refl refl

@@ -6,7 +6,8 @@ use Rattle.vring_split.specs.declared.fault.RingFault.{RingFault}
 use Rattle.vring_split.specs.declared.layout.Layout.{Layout}
 use Rattle.vring_split.specs.Split.{has_next, is_writable, is_indirect}
 use Rattle.vring_walk.specs.declared.table.Table.{Table}
-use Rattle.vring_walk.specs.Chain.{Cover, is_bad_length, first_broken, rules_for}
+use Rattle.tap_ground.specs.Options.{first_that_holds as first_broken}
+use Rattle.vring_walk.specs.Chain.{Cover, is_bad_length, rules_for}
 
 pub record KeepsTableRules (l : Layout) (t : Table) (d : Desc) : Type 0 where
   pub plain : t.indirect ≡ false

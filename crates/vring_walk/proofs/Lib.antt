@@ -7,3 +7,6 @@ pub mod Usable
 pub mod Functions
 pub mod Stretches
 pub mod Masks
+mod Gathered
+mod Writes
+mod Crowds

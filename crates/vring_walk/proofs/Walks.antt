@@ -9,7 +9,8 @@ use Rattle.vring_split.specs.declared.layout.Layout.{Layout}
 use Rattle.vring_split.specs.declared.segment.Segment.{Segment}
 use Rattle.vring_split.specs.Split.{desc_of, has_next, is_writable, is_indirect}
 use Rattle.vring_walk.specs.declared.rules.Met.{Met}
-use Rattle.vring_walk.specs.Chain.{Look, Cover, Place, desc_at, head_place, table_of, next_place, segment_of, segments_of, seen_in, any_writable, first_broken, rules_for, fault_at, Reaches, IsFirstFault}
+use Rattle.tap_ground.specs.Options.{first_that_holds as first_broken}
+use Rattle.vring_walk.specs.Chain.{Look, Cover, Place, desc_at, head_place, table_of, next_place, segment_of, segments_of, seen_in, any_writable, rules_for, fault_at, Reaches, IsFirstFault}
 use Rattle.vring_walk.specs.Fetch.{TakesChain}
 use Rattle.vring_walk.specs.Stretch.{table_bytes}
 use Rattle.vring_walk.proofs.KeptRules.{keeps_rules}

@@ -11,6 +11,7 @@ use Rattle.vring_split.specs.declared.layout.Layout.{Layout}
 use Rattle.vring_split.specs.declared.segment.Segment.{Segment}
 use Rattle.vring_split.specs.Split.{desc_of, has_next, is_writable, is_indirect}
 use Rattle.vring_walk.specs.declared.table.Table.{Table}
+use Rattle.tap_ground.specs.Options.{first_that_holds as first_broken}
 
 -- the byte at an address, if there is one
 abbrev pub Look : Type 0
@@ -73,11 +74,6 @@ any_writable segments = list_any (λ s. s.write) segments
 -- a table's length is 0, no multiple of 16, or above 16,384
 abbrev pub is_bad_length : ℕ → Bool
 is_bad_length len = len == 0 || not (len % 16 == 0) || nat_lt 16384 len
-
--- the first of the rules that are broken
-abbrev pub first_broken : List (Bool × RingFault) → Option RingFault
-first_broken [] = None
-first_broken (rule ∷ rules) = if rule.0 then Some rule.1 else first_broken rules
 
 -- the rules for a descriptor in a table, in their order: after so many of the same table, and so many segments, of
 -- which one or none is writable

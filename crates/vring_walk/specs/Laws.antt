@@ -1,13 +1,14 @@
 -- This project's own: what a path and a fetch can be.
-use Rattle.std.specs.Prelude.{◌≡◌, ℕ, ◌+◌, ◌^◌, ◌<◌, ◌≤◌, ◌↔◌, true, List, length, take}
+use Rattle.std.specs.Prelude.{◌≡◌, ◌≢◌, ℕ, ◌+◌, ◌^◌, ◌<◌, ◌≤◌, ◌↔◌, true, List, length, min, take}
 use Rattle.guest_mem.specs.Memory.{ByteList, value_at}
 use Rattle.vring_split.specs.declared.layout.Layout.{Layout}
 use Rattle.vring_split.specs.declared.segment.Segment.{Segment}
 use Rattle.vring_walk.specs.declared.walk.Fetched.{Fetched}
 use Rattle.vring_walk.specs.Chain.{Look, Cover, Place, Reaches, IsChain, IsUsable}
 use Rattle.vring_walk.specs.Fetch.{Fetches}
-use Rattle.vring_walk.specs.Fetched.{AppendsFetched}
-use Rattle.vring_walk.specs.Spread.{is_outside, laid, gathered, first_gathered}
+use Rattle.vring_walk.specs.declared.walk.Fetched.TheVariants.{Crowded}
+use Rattle.vring_walk.specs.Fetched.{AppendsFetched, fetched}
+use Rattle.vring_walk.specs.Spread.{bytes_in, is_outside, laid, gathered, first_gathered}
 
 -- two answers to one fetch are one, with one room
 abbrev pub OneAnswer : Type 0
@@ -23,6 +24,11 @@ FetchesAsFunction =
     (look : Look) (covers : Cover) (l : Layout) (position : ℕ) (old new : List Segment) (answer : Fetched)
     → position < 2 ^ 16 → length old ≤ 1024
     → Fetches look covers l position old answer new ↔ AppendsFetched look covers l position old answer new
+
+-- where all 1,024 places are left, a fetch never finds too few
+abbrev pub EmptyIsNotCrowded : Type 0
+EmptyIsNotCrowded =
+    (look : Look) (covers : Cover) (l : Layout) (position : ℕ) → (fetched look covers l position 1024).0 ≢ Crowded
 
 -- a path has no more descriptors before any of its places than the queue size and 1,024
 abbrev pub NoLongPath : Type 0
@@ -47,3 +53,9 @@ abbrev pub FrontIsGathered : Type 0
 FrontIsGathered =
     (bs : ByteList) (n : ℕ) (segments : List Segment)
     → first_gathered n bs segments ≡ take n (gathered bs segments)
+
+-- the first n bytes of segments are n, or all where there are fewer
+abbrev pub FirstAreCounted : Type 0
+FirstAreCounted =
+    (bs : ByteList) (n : ℕ) (segments : List Segment)
+    → length (first_gathered n bs segments) ≡ min (bytes_in segments) n

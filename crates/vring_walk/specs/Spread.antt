@@ -4,6 +4,11 @@ use Rattle.std.specs.Prelude.{ℕ, ◌+◌, ◌-◌, min, Bool, true, not, ◌&&
 use Rattle.guest_mem.specs.Memory.{ByteList, bytes_from, with_bytes}
 use Rattle.vring_split.specs.declared.segment.Segment.{Segment}
 
+-- how many bytes segments have
+abbrev pub bytes_in : List Segment → ℕ
+bytes_in [] = 0
+bytes_in (s ∷ ss) = s.len + bytes_in ss
+
 -- bytes laid over segments: each segment takes the next of them, as many as it has room for
 abbrev pub laid : ByteList → List Segment → List ℕ → ByteList
 laid bs [] xs = bs

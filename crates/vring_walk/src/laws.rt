@@ -1,5 +1,5 @@
 //! What a path and a fetch can be, as contracts of functions that do nothing.
-ghost use Rattle.vring_walk.specs.Laws.{OneAnswer, FetchesAsFunction, NoLongPath, ChainsAreUsable, LaidElsewhere, FrontIsGathered};
+ghost use Rattle.vring_walk.specs.Laws.{OneAnswer, FetchesAsFunction, EmptyIsNotCrowded, NoLongPath, ChainsAreUsable, LaidElsewhere, FrontIsGathered, FirstAreCounted};
 ghost use Rattle.vring_walk.specs.Examples.{HostileRings, IndexWraps};
 
 use guest_mem::write_laws;
@@ -10,6 +10,11 @@ use guest_mem::write_laws;
 pub fn one_answer()
     ensures one { OneAnswer }
     ensures as_function { FetchesAsFunction }
+{}
+
+/// Where all 1,024 places of a room are left, no fetch finds too few of them.
+pub fn empty_is_not_crowded()
+    ensures { EmptyIsNotCrowded }
 {}
 
 /// A path has no more descriptors before any of its places than the queue size and 1,024, so that a
@@ -29,11 +34,12 @@ pub fn worked_examples()
     ensures wraps { IndexWraps }
 {}
 
-/// Bytes that are laid over segments leave all other bytes, and the first bytes of segments are the
-/// front of all their bytes.
+/// Bytes that are laid over segments leave all other bytes; the first bytes of segments are the front of
+/// all their bytes, and as many as were asked for or as there are.
 pub fn spread_laws()
     ensures elsewhere { LaidElsewhere }
     ensures front { FrontIsGathered }
+    ensures count { FirstAreCounted }
 {
     write_laws();
 }

@@ -15,10 +15,7 @@ pub fn table_bytes<'a>(mem: &'a Memory, table: &Table) -> &'a [u8]
     requires { IsTrue (covers mem.now.regions table.now.addr (16 * table.now.entries)) }
     ensures { result.now ≡ table_bytes (byte_at mem.now) table.now }
 {
-    match mem.bytes(table.addr, desc_len(table.entries)) {
-        Ok(bytes) => bytes,
-        Err(_) => unreachable!(),
-    }
+    mem.bytes_in(table.addr, desc_len(table.entries))
 }
 
 /// The bytes of the available ring.
@@ -27,10 +24,7 @@ pub fn avail_bytes<'a>(mem: &'a Memory, ring: &Layout) -> &'a [u8]
     requires { IsTrue (covers mem.now.regions ring.now.avail (avail_len ring.now.num)) }
     ensures { result.now ≡ bytes_at (byte_at mem.now) ring.now.avail (avail_len ring.now.num) }
 {
-    match mem.bytes(ring.avail, avail_len(ring.num)) {
-        Ok(bytes) => bytes,
-        Err(_) => unreachable!(),
-    }
+    mem.bytes_in(ring.avail, avail_len(ring.num))
 }
 
 /// The number of the field that starts at a place of these bytes.

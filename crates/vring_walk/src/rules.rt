@@ -1,13 +1,14 @@
 //! The rules for a descriptor.
 ghost use Rattle.std.specs.Prelude.{◌≡◌, ◌+◌, ◌<◌, ◌^◌, ◌||◌, false};
-ghost use Rattle.vring_walk.specs.Chain.{first_broken, rules_for, is_bad_length};
+ghost use Rattle.tap_ground.specs.Options.{first_that_holds as first_broken};
+ghost use Rattle.vring_walk.specs.Chain.{rules_for, is_bad_length};
 
 use crate::segments::MAX_SEGMENTS;
 use crate::table::Table;
 use vring_split::{Desc, Layout, RingFault};
 
 /// How many bytes an indirect table has at most.
-const MAX_TABLE_LEN: u32 = 16_384;
+pub const MAX_TABLE_LEN: u32 = 16_384;
 
 /// What a path has met so far.
 #[derive(Clone, Copy)]
@@ -51,8 +52,9 @@ impl Met {
     }
 }
 
-/// Whether no table has this length.
-fn is_bad_length(len: u32) -> bool
+/// Whether no indirect table has this length, in bytes: it is 0, no multiple of 16, or above
+/// `MAX_TABLE_LEN`.
+pub fn is_bad_length(len: u32) -> bool
     ensures { result ≡ is_bad_length len }
 {
     len == 0 || len % 16 != 0 || len > MAX_TABLE_LEN

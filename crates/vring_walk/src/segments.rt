@@ -1,12 +1,12 @@
 //! The room for segments.
-ghost use Rattle.std.specs.Prelude.{◌≡◌, ◌≤◌, [], ◌∷◌, ◌++◌, length, take, IfOk};
+ghost use Rattle.std.specs.Prelude.{◌≡◌, ◌<◌, ◌≤◌, [], ◌∷◌, ◌++◌, length, take, IfOk};
 
 use std::alloc::{AllocError, Global};
 use std::marker::Model;
 use vring_split::Segment;
 
 /// How many segments a room has places for, and a chain at most.
-pub(crate) const MAX_SEGMENTS: usize = 1024;
+pub const MAX_SEGMENTS: usize = 1024;
 
 /// A room for the segments of chains, with 1,024 places.
 #[derive(Debug, Drop)]
@@ -50,6 +50,14 @@ impl Segments {
         self.items.as_slice()
     }
 
+    /// Takes a segment; a place is left.
+    pub fn push(&mut self, segment: Segment)
+        requires { length self.old < 1024 }
+        ensures { self.new ≡ self.old ++ segment ∷ [] }
+    {
+        self.items.push_reserved(segment);
+    }
+
     /// Takes a segment, if a place is left.
     pub(crate) fn add(&mut self, segment: Segment)
         ensures { self.new ≡ take 1024 (self.old ++ segment ∷ []) }
@@ -59,8 +67,8 @@ impl Segments {
         }
     }
 
-    /// Frees the places from one on.
-    pub(crate) fn truncate(&mut self, len: usize)
+    /// Keeps the first `len` segments, or all where there are fewer.
+    pub fn truncate(&mut self, len: usize)
         ensures { self.new ≡ take len self.old }
     {
         self.items.truncate(len);

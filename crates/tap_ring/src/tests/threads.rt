@@ -6,7 +6,7 @@ mod line;
 
 use self::line::tend;
 use super::frame_of;
-use crate::{Consumer, Ended, Keeper, Parts, Producer, PutBack, TapRing, Why};
+use crate::{Consumer, Ended, Keeper, MAX_SLOTS, Parts, Producer, PutBack, TapRing, Why};
 use std::alloc::Global;
 use std::process::Abort;
 use std::sync::Wait;
@@ -125,7 +125,7 @@ fn run_all<R: Threads + Wait + Abort + Sync>(
     requires low { (a.ring ≡ ring.now.ring) × (b.ring ≡ ring.now.ring) }
     requires high { (d.ring ≡ ring.now.ring) × (e.ring ≡ ring.now.ring) }
     requires others { (c.ring ≡ ring.now.ring) × (k.ring ≡ ring.now.ring) × (k.view.gate.shut ≡ true)
-        × (ring.now.most ≡ 1024) }
+        × (ring.now.most ≡ MAX_SLOTS) }
     ensures low { (result.low.first.0.ring ≡ ring.now.ring) × (result.low.second.0.ring ≡ ring.now.ring) }
     ensures high { (result.high.first.0.ring ≡ ring.now.ring) × (result.high.second.0.ring ≡ ring.now.ring) }
     ensures others { (result.consumed.0.ring ≡ ring.now.ring) × (result.consumed.1.ring ≡ ring.now.ring) }
@@ -134,7 +134,7 @@ fn run_all<R: Threads + Wait + Abort + Sync>(
         rt,
         move || -> (Consumer, Keeper, Vec<Name>)
             requires { (c.ring ≡ ring.now.ring) × (k.ring ≡ ring.now.ring) × (k.view.gate.shut ≡ true)
-                × (ring.now.most ≡ 1024) }
+                × (ring.now.most ≡ MAX_SLOTS) }
             ensures { (result.0.ring ≡ ring.entry.now.ring) × (result.1.ring ≡ ring.entry.now.ring) }
         { tend(rt, alloc, ring, c, k) },
         move || -> (Two, Two)
@@ -240,7 +240,7 @@ fn four_threads_put_one_takes_and_one_keeps(rt: HostRuntime) -> Result<(), Fail>
         mut producers,
         consumer,
         keeper,
-    } = TapRing::new(a, 1024, 1024, 0, 4)?;
+    } = TapRing::new(a, MAX_SLOTS, MAX_SLOTS, 0, 4)?;
     let (Some(p3), Some(p2), Some(p1), Some(p0)) = (
         producers.pop(),
         producers.pop(),

@@ -6,10 +6,10 @@ use Rattle.packed_drive.proofs.write.fill.Goals as goal
 
 pub loop-len-preserved : goal.loop-len-preserved
 loop-len-preserved c = record {
-  filled = rw (c.after-place.ensures.place, c.in-Ok.ensures.written, c.slot_at.ensures, c.split_at.ensures.front, c.split_at.ensures.back, c.min.ensures)
+  filled = rw (c.after-place.ensures.place, c.write_in.ensures, c.slot_at.ensures, c.split_at.ensures.front, c.split_at.ensures.back, c.min.ensures)
       (filled_more c.args.start c.args.num c.loop-len.place c.args.lens.now c.loop-len.left.now c.loop-len.len-index 0 c.loop-len.mem c.loop-len-test.true
       ∙ c.loop-len.invariant.filled);
-  regions = ap (λ (m : Contents). m.regions) c.in-Ok.ensures.written ∙ c.loop-len.invariant.regions;
+  regions = ap (λ (m : Contents). m.regions) c.write_in.ensures ∙ c.loop-len.invariant.regions;
   inside = c.after-place.ensures.inside;
 }
 

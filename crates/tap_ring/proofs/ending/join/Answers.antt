@@ -10,5 +10,5 @@ join_seat-requires c =
       ap (λ (t : Token). t.ring) c.p.view_is ∙ c.requires.ring.1,
       c.p.invariant.1,
       c.requires.ring.2,
-      joins_producer _ _ _ _ _ k.0 k.1 k.2 c.p.invariant.0.putting,
+      joins_producer _ _ _ _ _ k.0 k.1 k.2 c.p.invariant.0.putting c.p.invariant.0.spent,
     )

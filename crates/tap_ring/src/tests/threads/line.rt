@@ -3,7 +3,7 @@
 
 ghost use Rattle.std.specs.Prelude.{◌≡◌, [], MatchBool, true, false};
 
-use crate::{Consumer, Keeper, TapRing};
+use crate::{Consumer, Keeper, MAX_SLOTS, TapRing};
 use std::alloc::Global;
 use std::marker::{Brand, PhantomData};
 use std::process::Abort;
@@ -135,13 +135,13 @@ fn keep<J: RingName, R: Wait + Abort>(
     done: &AtomicBool,
     mut k: Keeper,
 ) -> Keeper
-    requires ring { (ring.now.ring ≡ J.ring) × (k.ring ≡ J.ring) × (ring.now.most ≡ 1024) }
+    requires ring { (ring.now.ring ≡ J.ring) × (k.ring ≡ J.ring) × (ring.now.most ≡ MAX_SLOTS) }
     requires shut { k.view.gate.shut ≡ true }
     ensures { result.ring ≡ J.ring }
 {
     reopen(rt, ring, front, &mut k);
     for round in 0..100 {
-        let capacity = if round % 2 == 0 { 16 } else { 1024 };
+        let capacity = if round % 2 == 0 { 16 } else { MAX_SLOTS };
         ring.resize(&mut k, capacity).expect(rt, "a resize");
         wait_for(rt, front, (round + 1) * ROUND);
         ring.shut(&mut k);
@@ -159,7 +159,7 @@ fn tend_as<J: RingName + Send + Sync, R: Threads + Wait + Abort + Sync>(
     k: Keeper,
 ) -> (Consumer, Keeper, Vec<Name>)
     requires ring { (ring.now.ring ≡ J.ring) × (c.ring ≡ J.ring) × (k.ring ≡ J.ring) }
-    requires keeper { (k.view.gate.shut ≡ true) × (ring.now.most ≡ 1024) }
+    requires keeper { (k.view.gate.shut ≡ true) × (ring.now.most ≡ MAX_SLOTS) }
     ensures { (result.0.ring ≡ J.ring) × (result.1.ring ≡ J.ring) }
 {
     let front = Mutex::new(Front::<J> {
@@ -174,7 +174,7 @@ fn tend_as<J: RingName + Send + Sync, R: Threads + Wait + Abort + Sync>(
             requires { ring.now.ring ≡ J.ring }
         { consume(rt, alloc, ring, shared, told) },
         move || -> Keeper
-            requires { (ring.now.ring ≡ J.ring) × (k.ring ≡ J.ring) × (ring.now.most ≡ 1024)
+            requires { (ring.now.ring ≡ J.ring) × (k.ring ≡ J.ring) × (ring.now.most ≡ MAX_SLOTS)
                 × (k.view.gate.shut ≡ true) }
             ensures { result.ring ≡ J.ring }
         { keep(rt, ring, shared, told, k) },
@@ -193,7 +193,7 @@ pub(super) fn tend<R: Threads + Wait + Abort + Sync>(
     k: Keeper,
 ) -> (Consumer, Keeper, Vec<Name>)
     requires ring { (c.ring ≡ ring.now.ring) × (k.ring ≡ ring.now.ring) }
-    requires keeper { (k.view.gate.shut ≡ true) × (ring.now.most ≡ 1024) }
+    requires keeper { (k.view.gate.shut ≡ true) × (ring.now.most ≡ MAX_SLOTS) }
     ensures { (result.0.ring ≡ ring.now.ring) × (result.1.ring ≡ ring.now.ring) }
 {
     tend_as::<Brand, R>(rt, alloc, ring, c, k)

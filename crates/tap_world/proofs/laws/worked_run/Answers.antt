@@ -12,4 +12,4 @@ returns-clause-trace c = refl
 
 pub returns-clause-full : goal.returns-clause-full
 unfolding flow_key.key table.first after.set_iff rules.refuse rules.set_iff_rules select.select
-returns-clause-full c = refl
+returns-clause-full c = (refl, refl)

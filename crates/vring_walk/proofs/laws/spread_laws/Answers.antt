@@ -5,12 +5,8 @@ use Rattle.std.proofs.Math.Seq.{take-append-add}
 use Rattle.guest_mem.specs.Memory.{ByteList, value_at, filled, bytes_from, with_bytes}
 use Rattle.vring_split.specs.declared.segment.Segment.{Segment}
 use Rattle.vring_walk.specs.Spread.{is_outside, laid, gathered, first_gathered}
+use Rattle.vring_walk.proofs.Gathered.{length-bytes_from, length-first}
 use Rattle.vring_walk.proofs.laws.spread_laws.Goals as goal
-
-length-filled : (n : ℕ) (bs : ByteList) (a : ℕ) → length (filled bs a n) ≡ n
-length-filled zero bs a = refl
-length-filled (suc n) [] a = let rest = length-filled n [] (a + 1) in omega arith
-length-filled (suc n) (e ∷ es) a = let rest = length-filled n (cond (eqb e.0 a) es (e ∷ es)) (a + 1) in omega arith
 
 take-filled : (k n : ℕ) (bs : ByteList) (a : ℕ) → k ≤ n → take k (filled bs a n) ≡ filled bs a k
 take-filled zero n bs a le = refl
@@ -18,10 +14,6 @@ take-filled (suc k) zero bs a le = absurd (omega arith)
 take-filled (suc k) (suc n) [] a le = ap (λ (xs : List ℕ). 0 ∷ xs) (take-filled k n [] (a + 1) (omega arith))
 take-filled (suc k) (suc n) (e ∷ es) a le =
     ap (λ (xs : List ℕ). cond (eqb e.0 a) e.1 0 ∷ xs) (take-filled k n (cond (eqb e.0 a) es (e ∷ es)) (a + 1) (omega arith))
-
-length-bytes_from : (bs : ByteList) (a n : ℕ) → length (bytes_from bs a n) ≡ n
-unfolding bytes_from
-length-bytes_from bs a n = length-filled n _ a
 
 take-bytes_from : (bs : ByteList) (a n k : ℕ) → k ≤ n → take k (bytes_from bs a n) ≡ bytes_from bs a k
 unfolding bytes_from
@@ -80,3 +72,6 @@ elsewhere after bs (s ∷ ss) xs a out =
 
 pub returns-clause-elsewhere : goal.returns-clause-elsewhere
 returns-clause-elsewhere c = λ bs segments xs a out. elsewhere c.write_laws.ensures.byte bs segments xs a out
+
+pub returns-clause-count : goal.returns-clause-count
+returns-clause-count c = λ bs n segments. length-first bs segments n

@@ -6,8 +6,8 @@ use Rattle.vring_turns.specs.Ring.{Gathered, LieIn, segments_of}
 use Rattle.vhost_rx.proofs.Splits.{all_kept, segments_of-split_into}
 use Rattle.vhost_rx.proofs.chains.Chains.lay.Goals as goal
 
-pub lay-requires-clause-lies : goal.lay-requires-clause-lies
-lay-requires-clause-lies c =
+pub scatter-requires-clause-covered : goal.scatter-requires-clause-covered
+scatter-requires-clause-covered c =
     let P : List Segment → Type 0 = λ ss. All (λ s. IsTrue (covers c.args.mem.now.regions s.addr s.len)) ss in
     let Q : List Gathered → Type 0 = λ cs. LieIn (covers c.args.mem.now.regions) cs in
     subst P (sym c.list.ensures.list)
@@ -19,6 +19,6 @@ returns c =
     let m = c.args.mem.now in
     let F : List Segment → Contents =
     λ ss. record m { bytes = laid m.bytes ss (c.args.front.now ++ c.args.behind.now) } in
-    c.lay.ensures ∙ ap F (c.list.ensures.list
+    c.scatter.ensures ∙ ap F (c.list.ensures.list
     ∙ (sym (segments_of-split_into c.self.inside.kept.items c.self.inside.room c.self.invariant.split)
     ∙ ap segments_of c.self.view_is))

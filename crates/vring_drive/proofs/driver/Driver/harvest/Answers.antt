@@ -37,7 +37,7 @@ returns-then-not-branch-clause-answer c =
     let e = c.used_elem_at-entry.result in
     let left : c.min-count.result - c.loop.counter ≡ suc (c.min-count.result - (c.loop.counter + 1)) = omega arith in
     let count : c.min-count.result ≡ ready_count m c.args.self.now =
-    rw (c.min-count.ensures, c.field_at-index.ensures, c.used_idx_addr.ensures, c.used.ensures, c.layout-ring.ensures.layout) refl in
+    rw (c.min-count.ensures, c.le16_at-index.ensures, c.used_idx_addr.ensures, c.used.ensures, c.layout-ring.ensures.layout) refl in
     let read : e ≡ used_entry m c.loop.self =
     entry_is m c.args.self.now c.loop.self c.layout-ring.result c.used_entry_addr.result c.used-in-loop.result e
     c.layout-ring.ensures.layout c.loop.invariant.settings c.used-in-loop.ensures c.used_entry_addr.ensures
@@ -56,7 +56,7 @@ returns-clause-answer c =
     let m = c.args.mem.now in
     let left : c.min-count.result - c.loop.counter ≡ 0 = omega arith in
     let count : c.min-count.result ≡ ready_count m c.args.self.now =
-    rw (c.min-count.ensures, c.field_at-index.ensures, c.used_idx_addr.ensures, c.used.ensures, c.layout-ring.ensures.layout) refl in
+    rw (c.min-count.ensures, c.le16_at-index.ensures, c.used_idx_addr.ensures, c.used.ensures, c.layout-ring.ensures.layout) refl in
     end_with c.loop.found.items (c.min-count.result - c.loop.counter) m c.loop.self (harvested m c.args.self.now) left
     (c.loop.invariant.harvest ∙ ap (λ (n : ℕ). harvest_of n m c.args.self.now) count)
 
@@ -71,7 +71,7 @@ returns-clause-memory c =
           memory_told m c.if-ring.mem c.args.self.now w.used-then-ring.result all.0
           (sym (ap (λ (l : Layout). l.event) laid) ∙ w.if-ring.true)
           (w.used-then-ring.ensures ∙ ap (λ (b : Books). b.used) all.2)
-          (w.mem-is ∙ w.write_field.ensures.written
+          (w.mem-is ∙ w.put_le16.ensures.written
           ∙ ap (λ (a : ℕ). at a w.used-then-ring.result) (w.used_event_addr.ensures ∙ ap used_event_addr laid))
       | else-ring w ↦
           w.mem-is ∙ memory_kept m c.args.self.now all.0 (sym (ap (λ (l : Layout). l.event) laid) ∙ w.if-ring.false)
