@@ -18,7 +18,7 @@ use Rattle.scen_gen.specs.Generated.{attachments, generated, has_read, lines, li
 use Rattle.scen_laid.specs.Generated.{GeneratedIsLaid}
 use Rattle.scen_laid.specs.Laid.{IsLaid}
 use Rattle.scen_laid.proofs.Laid.{said_is_laid}
-use Rattle.scen_laid.proofs.Sent.{Sends, all_accepted, four, sends_are, sent}
+use Rattle.scen_laid.proofs.Sent.{Sends, all_accepted, few_said, four, sends_are, sent}
 
 -- ---- scripts
 
@@ -72,4 +72,4 @@ generated_is n h =
 
 pub generated_is_laid : WordsAreKept → ValuesAreKept → GeneratedIsLaid
 generated_is_laid words values n h =
-    subst IsLaid (generated_is n h) (said_is_laid words values (said_in 1 (Ends ∷ sent n)) (all_accepted n h))
+    subst IsLaid (generated_is n h) (said_is_laid words values (said_in 1 (Ends ∷ sent n)) (record { accepted = all_accepted n h; few = few_said n h }))

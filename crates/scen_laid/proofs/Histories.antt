@@ -1,7 +1,11 @@
 -- The lines of a scenario that isn't refused, as a history: what each was tested for.
-use Rattle.std.proofs.Common.{◌≡◌, ℕ, suc, Bool, true, false, cond, ◌&&◌, ◌||◌, not, ltb, leb, List, [], ◌∷◌, length, Option, Some, None, Result, Ok, Err, refl, subst}
+use Rattle.std.proofs.Common.{◌≡◌, ℕ, suc, ◌+◌, ◌≤◌, Bool, true, false, cond, ◌&&◌, ◌||◌, not, eqb, ltb, leb, List, [], ◌∷◌, length, Option, Some, None, Result, Ok, Err, refl, ap, subst, arith}
+use Rattle.std.specs.List.{slice_split}
+use Rattle.std.proofs.lemmas.Bool.{ltb-false}
+use Rattle.std.proofs.lemmas.List.Splits.{length-slice_split}
+use Rattle.std.proofs.lemmas.List.Sums.{count_by-le-length}
 use Rattle.text_fields.specs.declared.value.Value.{Value}
-use Rattle.text_fields.specs.Lines.{lines_of}
+use Rattle.text_fields.specs.Lines.{but_empty_last, lines_of}
 use Rattle.scen_words.specs.declared.declaration.Declaration.{Declaration}
 use Rattle.scen_words.specs.declared.fault.Why.{Why}
 use Rattle.scen_words.specs.declared.fault.Why.TheVariants as why
@@ -55,35 +59,71 @@ lines_accepted law version e n (line ∷ lines) after ok h =
     let t = step_ok (sentence_of version line) e (is_nil lines) n (λ s. said_from version (s ∷ e) (suc n) lines) after h in
     lines_accepted law version (t.0 ∷ e) (suc n) lines after (record { fits = law version line t.0 t.1; last = is_nil lines; fine = t.2 }, ok) t.3
 
+lines_counted : (version : ℕ) (e : List Sentence) (n : ℕ) (lines : List (List ℕ)) (after : List Sentence) → said_from version e n lines ≡ Ok after → length after ≡ length e + length lines
+unfolding said_from
+lines_counted version e n [] after h = let same : e ≡ after = cc in let size = ap (λ (x : List Sentence). length x) same in omega (arith, size)
+lines_counted version e n (line ∷ lines) after h =
+    let t = step_ok (sentence_of version line) e (is_nil lines) n (λ s. said_from version (s ∷ e) (suc n) lines) after h in
+    let size = lines_counted version (t.0 ∷ e) (suc n) lines after t.3 in
+    omega (arith, size)
+
 -- ---- the history of a text
 
-abbrev Given : Said → Type 0
-Given said = Accepted said.version said.sentences
+-- one sentence for each line behind the first, and none refused
+record Given (lines : List (List ℕ)) (said : Said) : Type 0 where
+  accepted : Accepted said.version said.sentences
+  counted : length said.sentences ≡ length lines
 
 taken_by : SentencesFit → (lines : List (List ℕ)) (version : ℕ) (said : Said) (r : Histories) → said_from version [] 2 lines ≡ r
-    → (r >>= λ sentences. Ok (said_in version sentences)) ≡ Ok said → Given said
+    → (r >>= λ sentences. Ok (said_in version sentences)) ≡ Ok said → Given lines said
 taken_by law lines version said (Ok sentences) is e =
     let same : said_in version sentences ≡ said = cc in
-    subst Given same (lines_accepted law version [] 2 lines sentences tt is)
+    subst (Given lines) same (record { accepted = lines_accepted law version [] 2 lines sentences tt is; counted = lines_counted version [] 2 lines sentences is })
 taken_by law lines version said (Err why) is e = absurd cc
 
 first_by : SentencesFit → (lines : List (List ℕ)) (said : Said) (r : Result ℕ Why)
-    → (at_line 1 r >>= λ version. said_from version [] 2 lines >>= λ sentences. Ok (said_in version sentences)) ≡ Ok said → Given said
+    → (at_line 1 r >>= λ version. said_from version [] 2 lines >>= λ sentences. Ok (said_in version sentences)) ≡ Ok said → Given lines said
 first_by law lines said (Ok version) e = taken_by law lines version said (said_from version [] 2 lines) refl e
 first_by law lines said (Err why) e = absurd cc
 
-given_lines : SentencesFit → (lines : List (List ℕ)) (said : Said) → said_of_lines lines ≡ Ok said → Given said
+-- a history that isn't refused, of at most so many sentences
+pub record GivenUpTo (most : ℕ) (said : Said) : Type 0 where
+  pub accepted : Accepted said.version said.sentences
+  pub few : length said.sentences ≤ most
+
+given_lines : SentencesFit → (lines : List (List ℕ)) (said : Said) (most : ℕ) → length lines ≤ most + 1 → said_of_lines lines ≡ Ok said → GivenUpTo most said
 unfolding said_of_lines
-given_lines law [] said e = absurd cc
-given_lines law (first ∷ lines) said e = first_by law lines said (version_of first) e
+given_lines law [] said most few e = absurd cc
+given_lines law (first ∷ lines) said most few e =
+    let g = first_by law lines said (version_of first) e in
+    let size = g.counted in
+    record { accepted = g.accepted; few = omega (arith, size, few) }
 
-within_limit : (b : Bool) (r : Result Said ScenFault) (said : Said) (fault : ScenFault) → cond b (Err fault) r ≡ Ok said → r ≡ Ok said
-within_limit true r said fault e = absurd cc
-within_limit false r said fault e = e
+shorter : (parts : List (List ℕ)) → length (but_empty_last parts) ≤ length parts
+shorter [] = omega arith
+shorter ([] ∷ []) = omega arith
+shorter ([] ∷ q ∷ parts) = let h = shorter (q ∷ parts) in omega (arith, h)
+shorter ((b ∷ bs) ∷ parts) = let h = shorter parts in omega (arith, h)
 
-pub text_accepted : SentencesFit → (bytes : List ℕ) (said : Said) → said_of bytes ≡ Ok said → Accepted said.version said.sentences
+-- a text has at most one line more than bytes
+few_lines : (bytes : List ℕ) → length (lines_of bytes) ≤ length bytes + 1
+few_lines bytes =
+    let parts = slice_split (λ (b : ℕ). eqb b 10) bytes in
+    let a = shorter parts in
+    let b = length-slice_split (λ (b : ℕ). eqb b 10) bytes in
+    let d = count_by-le-length (λ (b : ℕ). eqb b 10) bytes in
+    omega (arith, a, b, d)
+
+within_limit : SentencesFit → (bytes : List ℕ) (said : Said) (b : Bool) (fault : ScenFault) → ltb MAX_BYTES (length bytes) ≡ b → cond b (Err fault) (said_of_lines (lines_of bytes)) ≡ Ok said → GivenUpTo MAX_BYTES said
+within_limit law bytes said true fault is e = absurd cc
+within_limit law bytes said false fault is e =
+    let few = ltb-false MAX_BYTES (length bytes) is in
+    let lines = few_lines bytes in
+    given_lines law (lines_of bytes) said MAX_BYTES (omega (arith, few, lines)) e
+
+pub text_given : SentencesFit → (bytes : List ℕ) (said : Said) → said_of bytes ≡ Ok said → GivenUpTo MAX_BYTES said
 unfolding said_of
-text_accepted law bytes said e = given_lines law (lines_of bytes) said (within_limit (ltb MAX_BYTES (length bytes)) (said_of_lines (lines_of bytes)) said _ e)
+text_given law bytes said e = within_limit law bytes said (ltb MAX_BYTES (length bytes)) _ refl e
 
 -- ---- what an accepted line was tested for
 

@@ -190,3 +190,31 @@ lines_are version (Orders a w v ∷ e) h =
     (sym (place_after e a w v)) more
 lines_are version (Opens n ∷ e) h = opened_lines n (place_of e) (phases_of e) (command_count e) (turn_count e) (lines_are version e h.1)
 lines_are version (Ends ∷ e) h = ended_lines (place_of e) (phases_of e) (command_count e) (turn_count e) (lines_are version e h.1)
+
+-- ---- there are no more phases than lines
+
+same_count : (l : Line) (ps : List Phase) → length (at_last l ps) ≡ length ps
+unfolding at_last
+same_count l [] = refl
+same_count l (p ∷ []) = refl
+same_count l (p ∷ q ∷ ps) = ap suc (same_count l (q ∷ ps))
+
+one_count : (pl : Place) (l : Line) (ps : List Phase) → length (add_line pl l ps) ≤ suc (length ps)
+one_count Outside l ps = let h = length-append ps (phase_of 1 (l ∷ []) ∷ []) in omega (arith, h)
+one_count Run l ps = let h = same_count l ps in omega (arith, h)
+one_count (Block n) l ps = let h = same_count l ps in omega (arith, h)
+
+pub few_phases : (e : List Sentence) → length (phases_of e) ≤ length e
+unfolding phases_of
+few_phases [] = omega arith
+few_phases (Skipped ∷ e) = let h = few_phases e in omega (arith, h)
+few_phases (Declares w v ∷ e) = let h = few_phases e in omega (arith, h)
+few_phases (Orders a w v ∷ e) =
+    let h = few_phases e in
+    let k = one_count (place_of e) (line_after e a w v) (phases_of e) in
+    omega (arith, h, k)
+few_phases (Opens n ∷ e) =
+    let h = few_phases e in
+    let k = length-append (phases_of e) (phase_of n [] ∷ []) in
+    omega (arith, h, k)
+few_phases (Ends ∷ e) = let h = few_phases e in omega (arith, h)

@@ -1,5 +1,5 @@
 -- What a generated scenario's lines say, as a history that isn't refused.
-use Rattle.std.proofs.Common.{◌≡◌, ℕ, zero, suc, ◌+◌, ◌/◌, ◌%◌, ◌^◌, ◌<◌, ◌≤◌, lit<, Bool, true, false, cond, ◌||◌, eqb, ltb, List, [], ◌∷◌, ◌++◌, codes, length, map, filter, replicate, Option, Some, None, refl, sym, ap, subst, ◌∙◌, append_assoc, mod-lt, arith}
+use Rattle.std.proofs.Common.{◌≡◌, ℕ, zero, suc, ◌+◌, ◌*◌, ◌/◌, ◌%◌, ◌^◌, ◌<◌, ◌≤◌, lit<, Bool, true, false, cond, ◌||◌, eqb, ltb, List, [], ◌∷◌, ◌++◌, codes, length, map, filter, replicate, Option, Some, None, refl, sym, ap, subst, ◌∙◌, append_assoc, mod-lt, arith}
 use Rattle.std.specs.Int.{w16, w32, to_be_bytes}
 use Rattle.std.specs.List.{AllByRecursion, list_all}
 use Rattle.std.proofs.lemmas.Bool.{and_parts, eqb-false, eqb-true, lt-leb, ltb-true}
@@ -10,7 +10,7 @@ use Rattle.text_fields.specs.Hexadecimal.{AreBytes}
 use Rattle.scen_words.specs.declared.command.Command.{Command}
 use Rattle.scen_words.specs.declared.command.Command.TheVariants.{Read, Send}
 use Rattle.scen_words.specs.declared.declaration.Declaration.{Declaration}
-use Rattle.scen_words.specs.declared.limits.TheConstants.{MAX_COMMANDS}
+use Rattle.scen_words.specs.declared.limits.TheConstants.{MAX_BYTES, MAX_COMMANDS}
 use Rattle.scen_words.specs.declared.sentence.Sentence.{Sentence}
 use Rattle.scen_words.specs.declared.sentence.Sentence.TheVariants.{Declares, Orders, Opens, Ends}
 use Rattle.scen_words.specs.declared.word.CommandWord.{CommandWord}
@@ -70,9 +70,22 @@ Fit [] = Unit {0}
 Fit (s ∷ h) = FitSentence 1 s × Fit h
 
 begun_fits : Fit begun
-begun_fits =
-    ((omega arith, omega arith), (attach_fits 3 (omega arith), (attach_fits 2 (omega arith), (attach_fits 1 (omega arith), (attach_fits 0 (omega arith),
-    ((refl, file_fits 3 (omega arith)), ((refl, file_fits 2 (omega arith)), ((refl, file_fits 1 (omega arith)), ((refl, file_fits 0 (omega arith)), tt)))))))))
+begun_fits = (
+  (omega arith, omega arith),
+  (
+    attach_fits 3 (omega arith),
+    (
+      attach_fits 2 (omega arith),
+      (
+        attach_fits 1 (omega arith),
+        (
+          attach_fits 0 (omega arith),
+          ((refl, file_fits 3 (omega arith)), ((refl, file_fits 2 (omega arith)), ((refl, file_fits 1 (omega arith)), ((refl, file_fits 0 (omega arith)), tt)))),
+        ),
+      ),
+    ),
+  ),
+)
 
 fine_taken : (h : List Sentence) → Fit h → Fine h → Accepted 1 h
 fine_taken [] fits fine = tt
@@ -130,7 +143,7 @@ one_more count ls h actor w v c s lt fits is known turn placed named same =
     let no_name : passes_names (names_of h) (commanded_name w v) ≡ false = ap (λ (ns : List (List ℕ)). passes_names ns (commanded_name w v)) s.names ∙ named in
     let limit = within (command_count h) (turn_count h) (names_of h) (commanded_name w v) (command_after h w v) few no_turn no_name in
     let line : line_after h (Some actor) w v ≡ record { actor = actor; number = count; command = c } =
-        ap (λ (k : ℕ). new_line actor k (command_after h w v)) s.commands ∙ ap (λ (x : Command). new_line actor count x) is in
+    ap (λ (k : ℕ). new_line actor k (command_after h w v)) s.commands ∙ ap (λ (x : Command). new_line actor count x) is in
     record {
       fits = (fits, s.fits);
       fine = (order_fine h actor w v unknown in_place limit, s.fine);
@@ -261,3 +274,14 @@ end_fine h is = rw is refl
 
 pub all_accepted : (n : ℕ) → n ≤ 100000 → Accepted 1 (Ends ∷ sent n)
 all_accepted n h = let s = sends_are n h in (record { fits = tt; last = true; fine = end_fine (sent n) s.place }, fine_taken (sent n) s.fits s.fine)
+
+behind_few : (b : Bool) (i : ℕ) (h : List Sentence) (k : ℕ) → length h ≤ k → length (behind b i h) ≤ k + 2
+behind_few true i h k few = omega (arith, few)
+behind_few false i h k few = omega (arith, few)
+
+sent_few : (n : ℕ) → length (sent n) ≤ 9 + 2 * n
+sent_few zero = omega arith
+sent_few (suc i) = let h = behind_few (has_read i) i (sent i) (9 + 2 * i) (sent_few i) in omega (arith, h)
+
+pub few_said : (n : ℕ) → n ≤ 100000 → length (Ends ∷ sent n) ≤ MAX_BYTES
+few_said n h = let few = sent_few n in omega (arith, few, h)

@@ -303,10 +303,11 @@ lays_more : (s : Scenario) (e : List Sentence) (d : Declaration) (t : Setup) (ds
     → t ≡ fold with_declaration (nothing_of s) ds
     → AllByRecursion IsInRange (ds ++ d ∷ []) × Matches (ds ++ d ∷ []) (fold with_declaration (nothing_of s) (ds ++ d ∷ [])) × Good (fold with_declaration (nothing_of s) (ds ++ d ∷ []))
 lays_more s e d t ds ranges m h r guest region program is =
-    let step : with_declaration t d ≡ fold with_declaration (nothing_of s) (ds ++ d ∷ []) = ap (λ (x : Setup). with_declaration x d) is ∙ sym (fold-append with_declaration (nothing_of s) ds (d ∷ [])) in
-    (all_more IsInRange ds d ranges r,
-    subst (λ (x : Setup). Matches (ds ++ d ∷ []) x) step (matches_more ds d t m),
-    subst (λ (x : Setup). Good x) step (good_more ds d t m h r guest region program))
+    let step : with_declaration t d ≡ fold with_declaration (nothing_of s) (ds ++ d ∷ []) = ap (λ (x : Setup). with_declaration x d) is ∙ sym (fold-append with_declaration (nothing_of s) ds (d ∷ [])) in (
+      all_more IsInRange ds d ranges r,
+      subst (λ (x : Setup). Matches (ds ++ d ∷ []) x) step (matches_more ds d t m),
+      subst (λ (x : Setup). Good x) step (good_more ds d t m h r guest region program),
+    )
 
 pub lays : (s : Scenario) (version : ℕ) (e : List Sentence) → Accepted version e → Lays s e
 unfolding declarations_of

@@ -200,7 +200,7 @@ rows_are : (n : ℕ) → map line_of (scenario_rows (generated n)) ≡ first_lin
 rows_are n =
     let sends = map (actor_row names) (lines n) in
     let tail : map line_of ((map (actor_row names) (lines n) ++ ending_row ∷ []) ++ []) ≡ sent_lines n ++ end_line ∷ [] =
-        ap (map line_of) (append-nil (map (actor_row names) (lines n) ++ ending_row ∷ [])) ∙ map-append line_of (map (actor_row names) (lines n)) (ending_row ∷ []) in
+    ap (map line_of) (append-nil (map (actor_row names) (lines n) ++ ending_row ∷ [])) ∙ map-append line_of (map (actor_row names) (lines n)) (ending_row ∷ []) in
     ap (λ (ls : List (List ℕ)). first_line ∷ (front ++ ls)) tail
 
 -- ---- it isn't too long
@@ -277,7 +277,7 @@ sent_total zero = omega arith
 sent_total (suc i) =
     let rows = map-append (actor_row names) (lines i) (lines_at i) in
     let a : total (map (actor_row names) (lines i ++ lines_at i)) ≡ total (map (actor_row names) (lines i)) + total (map (actor_row names) (lines_at i)) =
-        ap total rows ∙ total_more (map (actor_row names) (lines i)) (map (actor_row names) (lines_at i)) in
+    ap total rows ∙ total_more (map (actor_row names) (lines i)) (map (actor_row names) (lines_at i)) in
     let b = sent_total i in
     let d : total (map (actor_row names) (lines_at i)) ≤ 180 = at_total (has_read i) i in
     omega (arith, a, b, d)
@@ -296,15 +296,32 @@ attach_weight n h =
     let e = hex_length (to_be_bytes w16 flags) in
     omega (arith, d, e)
 
+first_weight : weight (codes "tapscen" ∷ decimal 1 ∷ []) ≤ 20
+unfolding weight
+first_weight = let d = digit_short 1 (lit< tt) in omega (arith, d)
+
+opening_weight : (n : ℕ) → weight (opening_row (traffic n)) ≤ 20
+unfolding weight
+opening_weight n = let d = digit_short 2 (lit< tt) in omega (arith, d)
+
+ending_weight : weight ending_row ≤ 10
+unfolding weight
+ending_weight = omega arith
+
+tail_total : (n : ℕ) → total ((map (actor_row names) (lines n) ++ ending_row ∷ []) ++ []) ≤ 180 * n + 10
+unfolding total
+tail_total n =
+    let a : total ((map (actor_row names) (lines n) ++ ending_row ∷ []) ++ []) ≡ total (map (actor_row names) (lines n)) + total (ending_row ∷ []) =
+    ap total (append-nil (map (actor_row names) (lines n) ++ ending_row ∷ [])) ∙ total_more (map (actor_row names) (lines n)) (ending_row ∷ []) in
+    let b = sent_total n in
+    let d = ending_weight in
+    omega (arith, a, b, d)
+
 short : (n : ℕ) → n ≤ 100000 → length (scenario_text (generated n)) ≤ MAX_BYTES
-unfolding total weight
+unfolding total
 short n h =
     let whole = text_short (scenario_rows (generated n)) in
-    let sends = sent_total n in
-    let behind : total ((map (actor_row names) (lines n) ++ ending_row ∷ []) ++ []) ≤ 180 * n + 10 =
-        let a : total ((map (actor_row names) (lines n) ++ ending_row ∷ []) ++ []) ≡ total (map (actor_row names) (lines n)) + total (ending_row ∷ []) =
-            ap total (append-nil (map (actor_row names) (lines n) ++ ending_row ∷ [])) ∙ total_more (map (actor_row names) (lines n)) (ending_row ∷ []) in
-        omega (arith, a, sends) in
+    let first = first_weight in
     let a = file_weight 0 (omega arith) in
     let b = file_weight 1 (omega arith) in
     let d = file_weight 2 (omega arith) in
@@ -313,9 +330,9 @@ short n h =
     let g = attach_weight 1 (omega arith) in
     let i = attach_weight 2 (omega arith) in
     let j = attach_weight 3 (omega arith) in
-    let k = digit_short 1 (lit< tt) in
-    let l = digit_short 2 (lit< tt) in
-    omega (arith, whole, behind, a, b, d, e, f, g, i, j, k, l, h)
+    let k = opening_weight n in
+    let tail = tail_total n in
+    omega (arith, whole, first, a, b, d, e, f, g, i, j, k, tail, h)
 
 said_text : Laws → (n : ℕ) → n ≤ 100000 → said_of (scenario_text (generated n)) ≡ Ok (said_in 1 (Ends ∷ sent n))
 unfolding said_of
@@ -323,7 +340,7 @@ said_text laws n h =
     let all = first_line ∷ ((front ++ sent_lines n) ++ end_line ∷ []) in
     let rows : text (scenario_rows (generated n)) ≡ text_of (first_line ∷ ((front ++ sent_lines n) ++ end_line ∷ [])) = text_is (scenario_rows (generated n)) ∙ ap text_of (rows_are n) in
     let cut : lines_of (scenario_text (generated n)) ≡ first_line ∷ ((front ++ sent_lines n) ++ end_line ∷ []) =
-        ap lines_of rows ∙ laws.cut (first_line ∷ ((front ++ sent_lines n) ++ end_line ∷ [])) (all_text laws n h) in
+    ap lines_of rows ∙ laws.cut (first_line ∷ ((front ++ sent_lines n) ++ end_line ∷ [])) (all_text laws n h) in
     let few : ltb MAX_BYTES (length (scenario_text (generated n))) ≡ false = le-ltb MAX_BYTES (length (scenario_text (generated n))) (short n h) in
     ap (λ (b : Bool). cond b (Err (record { line = 0; why = why.TooLong })) (said_of_lines (lines_of (scenario_text (generated n))))) few
     ∙ ap said_of_lines cut ∙ said_lines laws n h

@@ -4,7 +4,7 @@ use Rattle.std.specs.List.{AllByRecursion}
 use Rattle.text_fields.specs.Forms.{FitForm}
 use Rattle.text_fields.specs.Names.{is_name}
 use Rattle.scen_words.specs.declared.command.Command.{Command}
-use Rattle.scen_words.specs.declared.limits.TheConstants.{MAX_COMMANDS, MAX_NAMES, MAX_TURNS}
+use Rattle.scen_words.specs.declared.limits.TheConstants.{MAX_BYTES, MAX_COMMANDS, MAX_NAMES, MAX_TURNS}
 use Rattle.scen_words.specs.Commands.{command_values, command_word, is_turn}
 use Rattle.scen_words.specs.Words.{command_form}
 use Rattle.scen_text.specs.declared.scenario.Line.{Line}
@@ -52,7 +52,8 @@ lines_of ps = flat_map (λ (p : Phase). p.lines) ps
 abbrev pub turns_of : List Phase → List Line
 turns_of ps = filter (λ (l : Line). is_turn l.command) (lines_of ps)
 
--- at most 200,000 commands, of which at most 512 are turns
+-- no more phases than a text has bytes, and at most 200,000 commands, of which at most 512 are turns
 pub record IsWithinLimits (ps : List Phase) : Type 0 where
+  pub phases : length ps ≤ MAX_BYTES
   pub commands : length (lines_of ps) ≤ MAX_COMMANDS
   pub turns : length (turns_of ps) ≤ MAX_TURNS
