@@ -3,3 +3,4 @@ pub mod Change
 pub mod Texts
 pub mod Runs
 pub mod Verdicts
+pub mod Small

@@ -60,9 +60,12 @@ abbrev pub told : Option (Clause × ℕ) → List ℕ
 told None = codes "legal"
 told (Some v) = codes "illegal " ++ decimal v.1 ++ codes " " ++ letter v.0
 
--- the verdict on the run's trace after a change
-abbrev pub judged_run : (Trace → Trace) → Scenario → Option (List ℕ)
-judged_run change s = option_map (λ t. told (verdict s (change t))) (played 0 s)
+-- the verdict on the trace of a seed's run after a change
+abbrev pub judged_run : ℕ → (Trace → Trace) → Scenario → Option (List ℕ)
+judged_run seed change s = option_map (λ t. told (verdict s (change t))) (played seed s)
+
+abbrev pub judged_by : ℕ → List ℕ → (Trace → Trace) → Option (List ℕ)
+judged_by seed bytes change = option_and_then (judged_run seed change) (read bytes)
 
 abbrev pub judged : List ℕ → (Trace → Trace) → Option (List ℕ)
-judged bytes change = option_and_then (judged_run change) (read bytes)
+judged bytes change = judged_by 0 bytes change

@@ -163,3 +163,14 @@ alike_trace =
     ++ codes "step 0 12 fetch 0 0 0 0\nstep 0 12 copy 0 0 0 0.9.0\nstep 0 12 fetch 0 0 1 1\n"
     ++ codes "step 0 12 copy 0 0 1 0.10.0\nstep 0 12 none 0 0\nstep 0 12 notices 0 0 1\nstep 0 12 none 0 0\n"
     ++ codes "step 0 12 publish 0 0 2 1\nring 0 0\nbase 0\nused 0 0 32\nused 1 1 32\nring 0 1\nbase 0\nend\n"
+
+-- ---- a ring that changes its file
+
+-- a chain is posted to a transmit ring; then one actor gives the ring a file, one has a turn, one takes the file off,
+-- and one gives it another
+abbrev pub moved : List ℕ
+moved =
+    codes "tapscen 1\nfile 0 1\nfile 1 1\nregion 0 0 65536\nvhost 0 0\nsetiff 0 tap0 5102\n"
+    ++ codes "setiff 1 tap0 5102\nhdrsize 0 12\nfeatures 0 0000000100008000\nvnum 0 1 2\ndrive 0 1 0\n"
+    ++ codes "vaddr 0 1 0 32 44\npostout 0 1 0000000000000000000000000200000000010200000000020800aabbccddeeff\n"
+    ++ codes "phase 4\n@0 backend 0 1 0\n@1 txturn 0\n@2 backend 0 1 -\n@3 backend 0 1 1\nend\n"

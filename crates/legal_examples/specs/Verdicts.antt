@@ -1,6 +1,6 @@
 -- This project's own: verdicts on the traces of runs, and on the same with one thing changed. Each was written from the
 -- rules before it was computed.
-use Rattle.std.specs.Prelude.{◌≡◌, ℕ, List, [], ◌∷◌, ◌++◌, codes, map, Option, Some, false, true}
+use Rattle.std.specs.Prelude.{◌≡◌, ℕ, [], ◌∷◌, ◌++◌, codes, map, Some, false, true}
 use Rattle.tap_frame.specs.declared.name.Name.{Name}
 use Rattle.tap_ledger.specs.declared.fate.Cause.TheVariants as cause
 use Rattle.tap_ledger.specs.declared.fate.Fate.TheVariants as fate
@@ -9,11 +9,10 @@ use Rattle.tap_ledger.specs.declared.error.TapErr.TheVariants as tap
 use Rattle.tap_ledger.specs.declared.error.Busy.TheVariants as busy
 use Rattle.tap_trace.specs.declared.kind.Kind.TheVariants as kind
 use Rattle.tap_trace.specs.declared.trace.AnswerLine.{AnswerLine}
-use Rattle.tap_trace.specs.declared.trace.PhasePart.{PhasePart}
 use Rattle.tap_trace.specs.declared.trace.StepLine.{StepLine}
 use Rattle.tap_trace.specs.declared.trace.Trace.{Trace}
 use Rattle.tap_trace.specs.declared.turn.TurnText.TheVariants as turn
-use Rattle.legal_examples.specs.Change.{change_at, one_place_up, with_answer, with_entries, with_fate, with_kind, with_seen, with_steps}
+use Rattle.legal_examples.specs.Change.{change_at, one_place_up, with_answer, with_answers, with_entries, with_fate, with_kind, with_seen, with_steps}
 use Rattle.legal_examples.specs.Play.{judged}
 use Rattle.legal_examples.specs.Texts.{alike, guests, later, no_ring, one_place, poked, short, workers}
 
@@ -123,11 +122,8 @@ halts t = with_steps 0 (λ steps. steps ++ record { actor = 0; command = 8; kind
 -- ---- a full ring: it tells a place that its own actor is given later
 
 abbrev pub full_too_late : Change
-full_too_late t = record t {
-  phases = change_at 1 (λ (p : PhasePart). record p {
-    answers = change_at 1 (λ (a : AnswerLine). record a { answer = answer.Dropped (Some 0) (cause.Full 2 1) }) p.answers;
-  }) t.phases;
-}
+full_too_late t =
+    with_answers 1 (change_at 1 (λ (a : AnswerLine). record a { answer = answer.Dropped (Some 0) (cause.Full 2 1) })) t
 
 -- ---- short chains: the answer tells less than the frame needs, or than any frame does
 
@@ -153,7 +149,7 @@ ChangesAreIllegal =
     × (judged workers one_up ≡ Some (codes "illegal 32 c"))
     × (judged later full_too_late ≡ Some (codes "illegal 7 d"))
     × (judged one_place full_of_more ≡ Some (codes "illegal 6 d"))
-    × (judged one_place gone_from_none ≡ Some (codes "illegal 6 e"))
+    × (judged one_place gone_from_none ≡ Some (codes "illegal 10 e"))
     × (judged one_place found_none ≡ Some (codes "illegal 7 f"))
     × (judged workers refusal_too_late ≡ Some (codes "illegal 29 g"))
     × (judged workers short_of_none ≡ Some (codes "illegal 28 g"))

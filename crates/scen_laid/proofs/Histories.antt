@@ -74,11 +74,14 @@ record Given (lines : List (List ℕ)) (said : Said) : Type 0 where
   accepted : Accepted said.version said.sentences
   counted : length said.sentences ≡ length lines
 
+from_nothing : {n m : ℕ} → n ≡ 0 + m → n ≡ m
+from_nothing e = omega (arith, e)
+
 taken_by : SentencesFit → (lines : List (List ℕ)) (version : ℕ) (said : Said) (r : Histories) → said_from version [] 2 lines ≡ r
     → (r >>= λ sentences. Ok (said_in version sentences)) ≡ Ok said → Given lines said
 taken_by law lines version said (Ok sentences) is e =
     let same : said_in version sentences ≡ said = cc in
-    subst (Given lines) same (record { accepted = lines_accepted law version [] 2 lines sentences tt is; counted = lines_counted version [] 2 lines sentences is })
+    subst (Given lines) same (record { accepted = lines_accepted law version [] 2 lines sentences tt is; counted = from_nothing (lines_counted version [] 2 lines sentences is) })
 taken_by law lines version said (Err why) is e = absurd cc
 
 first_by : SentencesFit → (lines : List (List ℕ)) (said : Said) (r : Result ℕ Why)

@@ -8,9 +8,9 @@ use Rattle.tap_world.specs.Setup.{setup_of}
 use Rattle.tap_world.specs.Sound.{IsSound}
 use Rattle.tap_world.specs.World.{World}
 use Rattle.tap_sound.specs.Fresh.{NamesAreNew}
-use Rattle.tap_sound.specs.Reached.{IsReached}
 use Rattle.tap_sound.specs.SoundRuns.{ReachedIsSound, RunIsSound}
 use Rattle.tap_sound.specs.Used.{UsedIsCounted}
+use Rattle.tap_sound.specs.Worlds.{IsWorldOf}
 use Rattle.scen_laid.specs.Laid.{IsLaid}
 use Rattle.scen_laid.specs.Runs.{IsSoundWorld, LaidRunsAreSound}
 
@@ -23,13 +23,13 @@ pub record Laws : Type 0 where
   pub in_order : LeaveInOrder
   pub counted : UsedIsCounted
 
-sound_world : Laws → (s : Scenario) → IsLaid s → (w : World) → IsReached s w → IsSoundWorld s w
+sound_world : Laws → (s : Scenario) → IsLaid s → (w : World) → IsWorldOf s w → IsSoundWorld s w
 sound_world laws s laid w reached =
     let sound = laws.sound s w laid.places laid.guests reached in
     record {
       sound = sound;
       once = λ n. laws.once (setup_of s) w n sound;
-      in_order = λ file i j f d e fate at_ lt before there out. laws.in_order f.line i j d e fate (sound.room file f at_).parts lt before there out;
+      in_order = λ file i j f d e fate at_ lt before there out. laws.in_order f.line i j d e fate (sound.lines file f at_).ordered.parts lt before there out;
       counted = λ vhost ring v at_. laws.counted (setup_of s) w vhost ring v sound at_;
     }
 

@@ -10,8 +10,9 @@ use Rattle.tap_world.specs.declared.event.Event.{Event}
 use Rattle.tap_world.specs.ByNumber.{at}
 use Rattle.tap_world.specs.Setup.{setup_of}
 use Rattle.tap_world.specs.Guests.{Vhost}
-use Rattle.tap_world.specs.Line.{Entry, File}
-use Rattle.tap_world.specs.Line.Standing.{Out}
+use Rattle.tap_world.specs.declared.line.Entry.{Entry}
+use Rattle.tap_world.specs.declared.line.Standing.TheVariants.{Out}
+use Rattle.tap_world.specs.Line.{File}
 use Rattle.tap_world.specs.World.{World}
 use Rattle.tap_world.specs.Effect.{Effect}
 use Rattle.tap_world.specs.Stands.{times}
@@ -19,7 +20,7 @@ use Rattle.tap_world.specs.Step.{effect, row_of}
 use Rattle.tap_world.specs.Project.{lists_from}
 use Rattle.tap_world.specs.Runs.{IsRun}
 use Rattle.tap_world.specs.Sound.{IsSound, is_cut, rank}
-use Rattle.tap_sound.specs.Reached.{IsReached}
+use Rattle.tap_sound.specs.Worlds.{IsWorldOf}
 use Rattle.tap_sound.specs.Used.{IsCounted}
 use Rattle.scen_laid.specs.Laid.{IsLaid}
 
@@ -52,10 +53,10 @@ pub record IsSoundWorld (s : Scenario) (w : World) : Type 0 where
 -- Each world that a run reaches is so, and the one that it ends in is sound; and no event of a world that a run reaches
 -- is refused for its names: whatever comes next and has an effect drops, hosts and places names that stand nowhere yet.
 pub record HasSoundRuns (s : Scenario) : Type 0 where
-  pub reached : (w : World) → IsReached s w → IsSoundWorld s w
+  pub reached : (w : World) → IsWorldOf s w → IsSoundWorld s w
   pub ended : (events : List (List Event)) (w : World) → IsRun s events w → IsSound (setup_of s) w
   pub new :
-      (w : World) (e : Event) (r : Effect) → IsReached s w → row_of (setup_of s) w e ≡ Some r
+      (w : World) (e : Event) (r : Effect) → IsWorldOf s w → row_of (setup_of s) w e ≡ Some r
       → effect (setup_of s) w e ≡ Some r
 
 -- So are the runs of each scenario that is laid, and so those of each scenario that some text stands for.

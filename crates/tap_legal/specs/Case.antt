@@ -74,14 +74,21 @@ fails_order line agrees xs = fails_after line agrees [] xs
 abbrev pub fails_missing : {A : Type 0} → Case → (A → Bool) → List A → List ℕ
 fails_missing c is_there xs = fails_each (λ x. c.end) is_there xs
 
--- lines are the wanted ones, one by one: the first that isn't fails, and `end` where one is missing
+-- lines are the wanted ones, one after another: the first that isn't fails, and `end` where one is missing
 abbrev pub fails_as : {A B : Type 0} → ℕ → (A → B → Bool) → (B → ℕ) → List A → List B → List ℕ
 fails_as end same line [] [] = []
 fails_as end same line [] (y ∷ ys) = line y ∷ []
 fails_as end same line (x ∷ xs) [] = end ∷ []
 fails_as end same line (x ∷ xs) (y ∷ ys) = if same x y then fails_as end same line xs ys else line y ∷ []
 
--- the lines of answers, operations, entries and files
+-- lines are the wanted ones by their numbers, which rise: one too many fails, and `end` where one is missing
+abbrev pub fails_wanted :
+    {A B : Type 0} → Case → (B → ℕ) → (A → B → Bool) → (B → B → Bool) → List A → List B → List ℕ
+fails_wanted c line same rises wanted lines =
+    fails_each line (λ l. list_any (λ w. same w l) wanted) lines ++ fails_order line rises lines
+    ++ fails_missing c (λ w. list_any (same w) lines) wanted
+
+-- the lines of answers, operations, entries, files and steps
 abbrev pub of_answer : AnswerAt → ℕ
 of_answer a = a.line
 

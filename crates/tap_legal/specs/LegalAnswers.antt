@@ -21,7 +21,7 @@ use Rattle.tap_world.specs.Setup.{frame_of}
 use Rattle.tap_legal.specs.Numbered.{AnswerAt, Asked, EntryAt, OpAt, PhaseAt, same_told}
 use Rattle.tap_legal.specs.Same.{is_bad, same_refusal}
 use Rattle.tap_legal.specs.Case.{Case, fails_as, fails_each, fails_missing, fails_order, of_answer}
-use Rattle.tap_legal.specs.Lookups.{entry_named, has_learnt, is_below_own, newest_before, newest_of, ops_of, seen_before, some_version, table_at}
+use Rattle.tap_legal.specs.Lookups.{entry_named, is_below_own, learnt_by, newest_before, newest_of, ops_of, row_at, seen_before, some_look, some_now, table_at}
 
 -- ---- the commands
 
@@ -45,11 +45,11 @@ has_answer c x = list_any (λ (a : AnswerAt). same_told a.told x.told) c.answers
 abbrev pub is_seen_from : Case → AnswerAt → Bool
 is_seen_from c a = nat_le (seen_before c a.told) a.seen && nat_le (newest_before c a.told.phase) a.seen
 
--- and each version that its command published,
+-- and, in addition to the sentences, each version that its command published, since an actor has seen what it does;
 abbrev pub is_seen_own : Case → AnswerAt → Bool
 is_seen_own c a = not (list_any (λ (o : OpAt). nat_lt a.seen o.at.version) (ops_of c a.told.command))
 
--- at most the newest version of its own phase,
+-- it is at most the newest version of its own phase,
 abbrev pub is_seen_to : Case → AnswerAt → Bool
 is_seen_to c a = nat_le a.seen (newest_of c a.told.phase)
 
@@ -101,10 +101,6 @@ has_text c front room name bytes =
     option_map_or (λ f. bytes_eq (text_in front f room) bytes) (frame_of c.setup name e.at.len) true)
     (entry_named c name) true
 
--- a version from SEEN on, of the phase, and below the next one that this actor publishes
-abbrev pub at_some : Case → AnswerAt → (Table → Bool) → Bool
-at_some c a test = some_version a.seen (newest_of c a.told.phase) (λ v. is_below_own c a.told v && test (table_at c v))
-
 -- a worker may own the file
 abbrev pub has_worker : ℕ → Table → Bool
 has_worker file t = is_some (file_at t file).rx
@@ -113,7 +109,7 @@ abbrev pub fits_read : Case → AnswerAt → ℕ → ℕ → Front → Answer �
 fits_read c a file room front (answer.Room least) = nat_lt room (least_in front) && least == least_in front
 fits_read c a file room front (answer.Read name place bytes) =
     nat_le (least_in front) room && has_text c front room name bytes
-fits_read c a file room front answer.Busy = nat_le (least_in front) room && at_some c a (has_worker file)
+fits_read c a file room front answer.Busy = nat_le (least_in front) room && some_now c a (has_worker file)
 fits_read c a file room front (answer.Again place) = nat_le (least_in front) room
 fits_read c a file room front other = false
 
@@ -139,13 +135,12 @@ fits_write_at c file bytes x version =
 -- `write` is answered by its bytes at SEEN, or, where it learns, at a version that it may have looked at.
 abbrev pub is_answer : Case → AnswerAt → Option Command → Bool
 is_answer c a (Some (command.Send name hdr bytes)) =
-    fits_send (bad_in (sent_front hdr) (sent_bytes hdr bytes))
-    (steer.select (table_at c a.seen) name (ether_in (sent_front hdr) (sent_bytes hdr bytes))) a.answer
+    fits_send (bad_in (sent_front hdr) (sent_bytes hdr bytes)) (row_at c a.seen name hdr bytes) a.answer
 is_answer c a (Some (command.Read file room)) =
     fits_front (steer.shape_of (table_at c a.seen) file) a.answer (λ front. fits_read c a file room front a.answer)
 is_answer c a (Some (command.Write file bytes)) =
-    if has_learnt c a.told.command
-    then some_version (seen_before c a.told) a.seen (fits_write_at c file bytes a.answer)
+    if nat_lt 0 (length (learnt_by c a.told.command))
+    then some_look c a.told a.seen (fits_write_at c file bytes a.answer)
     else fits_write_at c file bytes a.answer a.seen
 is_answer c a other = true
 

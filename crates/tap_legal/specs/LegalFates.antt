@@ -1,6 +1,6 @@
 -- This project's own, clause h of a legal trace: each accepted frame has one fate, and no other name stands in the
 -- trace.
-use Rattle.std.specs.Prelude.{ℕ, ◌+◌, ◌==◌, ◌&&◌, ◌||◌, not, nat_lt, if◌then◌else◌, Bool, true, false, List, [], ◌∷◌, ◌++◌, length, filter, flat_map, is_none, Option, Some, None}
+use Rattle.std.specs.Prelude.{ℕ, ◌+◌, ◌==◌, ◌&&◌, ◌||◌, not, nat_lt, if◌then◌else◌, Bool, true, false, List, [], ◌∷◌, ◌++◌, length, filter, flat_map, Option, Some, None}
 use Rattle.std.specs.List.{list_all, list_any}
 use Rattle.std.specs.Option.{option_map_or}
 use Rattle.tap_frame.specs.declared.name.Name.{Name}
@@ -9,30 +9,17 @@ use Rattle.scen_words.specs.declared.command.Command.TheVariants as command
 use Rattle.tap_trace.specs.declared.answer.Answer.{Answer}
 use Rattle.tap_trace.specs.declared.answer.Answer.TheVariants as answer
 use Rattle.tap_world.specs.World.{name_of}
-use Rattle.tap_world.specs.Frames.{bad_in, sent_bytes, sent_front}
+use Rattle.tap_world.specs.Stands.{same_name}
 use Rattle.tap_ledger.specs.declared.fate.Fate.{Fate}
 use Rattle.tap_ledger.specs.declared.fate.Fate.TheVariants as fate
 use Rattle.tap_ledger.specs.declared.fate.Cause.TheVariants as cause
-use Rattle.tap_legal.specs.Numbered.{AnswerAt, Asked, EntryAt, FileAt, StepAt, Told}
+use Rattle.tap_legal.specs.Numbered.{AnswerAt, EntryAt, FileAt, StepAt}
 use Rattle.tap_legal.specs.Replay.{Packet}
 use Rattle.tap_legal.specs.Replays.{Replays, is_whole, packets_of}
 use Rattle.tap_legal.specs.Served.{serves}
 use Rattle.tap_legal.specs.Case.{Case, fails_each, of_answer, of_entry, of_file, of_step}
-use Rattle.tap_legal.specs.Lookups.{asked_at, same_name}
+use Rattle.tap_legal.specs.Lookups.{is_accepted, is_sent}
 use Rattle.tap_legal.specs.Takes.{copied, copies_of, has_guest, readers, was_read}
-
--- ---- names
-
--- a command sends a frame that is accepted
-abbrev pub is_accepted : Command → Bool
-is_accepted (command.Send name hdr bytes) = is_none (bad_in (sent_front hdr) (sent_bytes hdr bytes))
-is_accepted other = false
-
--- the name is that of a frame that was sent and accepted
-abbrev pub is_sent : Case → Name → Bool
-is_sent c n =
-    option_map_or (λ (a : Asked). a.told.actor == n.actor && n.part == 0 && is_accepted a.command)
-    (asked_at c n.turn) false
 
 -- ---- one fate
 
@@ -49,7 +36,8 @@ abbrev pub has_one_fate : Case → AnswerAt → Option Command → Bool
 has_one_fate c a (Some (command.Send name hdr bytes)) =
     not (is_accepted (command.Send name hdr bytes))
     || (if is_drop a.answer then 1 else 0) + length (entries_named c (name_of a.told.actor a.told.command)) == 1
-has_one_fate c a (Some (command.Write file bytes)) = length (entries_named c (name_of a.told.actor a.told.command)) == 0
+has_one_fate c a (Some (command.Write file bytes)) =
+    length (entries_named c (name_of a.told.actor a.told.command)) == 0
 has_one_fate c a other = true
 
 -- ---- no other name
@@ -128,5 +116,6 @@ h_fails c rs =
     ++ fails_each of_step (copies_sent c) c.steps
     ++ fails_each of_entry (is_taken_once c) c.entries
     ++ fails_each of_entry (λ (e : EntryAt). fits_overrun e.at.len e.at.fate) c.entries
-    ++ (if is_whole rs then fails_each of_file (has_packets c rs) c.files ++ flat_map
-    (file_packets_fail c rs) c.files else [])
+    ++ (if is_whole rs
+    then fails_each of_file (has_packets c rs) c.files ++ flat_map (file_packets_fail c rs) c.files
+    else [])

@@ -10,14 +10,13 @@ use Rattle.tap_trace.specs.declared.answer.Answer.{Answer}
 use Rattle.tap_trace.specs.declared.answer.Answer.TheVariants as answer
 use Rattle.tap_legal.specs.Numbered.{AnswerAt, Asked, EntryAt, OpAt, Told}
 use Rattle.tap_legal.specs.Case.{Case, fails_each, of_answer}
-use Rattle.tap_legal.specs.LegalAnswers.{at_some}
-use Rattle.tap_legal.specs.Lookups.{asked_at, claimed_of, freed_of, is_above_before, is_at_most_later, put_in, table_at}
+use Rattle.tap_legal.specs.Lookups.{asked_at, claimed_of, freed_of, is_above_before, is_at_most_later, put_in, some_now, table_at}
 use Rattle.tap_legal.specs.Takes.{was_taken_before}
 
 -- Either k - d is the capacity of the file at a version from SEEN on, of the phase, and below the next one that this
 -- actor publishes;
 abbrev pub had_capacity : Case → AnswerAt → ℕ → ℕ → ℕ → Bool
-had_capacity c a file k d = at_some c a (λ t. k == d + capacity_of t file)
+had_capacity c a file k d = some_now c a (λ t. k == d + capacity_of t file)
 
 -- or another actor of the phase resizes the file above SEEN, and k - d is above the new capacity and at most the one
 -- before it.

@@ -11,9 +11,10 @@ use Rattle.scen_words.specs.declared.command.Command.{Command}
 use Rattle.scen_words.specs.declared.command.Command.TheVariants as command
 use Rattle.tap_world.specs.ByNumber.{numbered}
 use Rattle.tap_world.specs.Setup.{Declared}
+use Rattle.tap_world.specs.Stands.{same_name}
 use Rattle.tap_legal.specs.Numbered.{AnswerAt, Asked, EntryAt, FileAt, StepAt, Told}
-use Rattle.tap_legal.specs.Case.{Case, fails_as, fails_each, fails_order, of_answer, of_entry, of_file, of_step}
-use Rattle.tap_legal.specs.Lookups.{answer_of, claimed_of, declared, ending_of, entry_at, entry_named, freed_of, is_before, part_of, put_in, same_name, table_at, taken_from, told_of}
+use Rattle.tap_legal.specs.Case.{Case, fails_each, fails_order, fails_wanted, of_answer, of_entry, of_file, of_step}
+use Rattle.tap_legal.specs.Lookups.{answer_of, claimed_of, declared, ending_of, entry_at, entry_named, freed_of, is_before, part_of, put_in, table_at, taken_from, told_of}
 use Rattle.tap_legal.specs.Takes.{Resized, copied, cuts_of, resizes_of, waits, was_cut, was_purged, was_read}
 
 -- ---- files and entries
@@ -21,6 +22,9 @@ use Rattle.tap_legal.specs.Takes.{Resized, copied, cuts_of, resizes_of, waits, w
 -- The `file` lines are the declared files.
 abbrev pub is_file : ℕ × Declared → FileAt → Bool
 is_file d f = f.part.file == d.0
+
+abbrev pub files_rise : FileAt → FileAt → Bool
+files_rise f g = nat_lt f.part.file g.part.file
 
 -- Each `placed` is the entry at its place, under the command's name, epoch and length.
 abbrev pub is_entry_of : Told → ℕ → ℕ → EntryAt → Bool
@@ -33,7 +37,7 @@ stands_as c t (answer.Placed file place epoch len) =
     option_map_or (is_entry_of t epoch len) (entry_at c file place) false
 stands_as c t other = true
 
--- Each entry is one `placed`, and entry i has place first + i.
+-- Each entry is one `placed`,
 abbrev pub is_placed : Case → EntryAt → Bool
 is_placed c e =
     e.at.name.part == 0
@@ -42,6 +46,7 @@ is_placed c e =
     (put_in e.file a) false)
     (answer_of c e.at.name.turn) false
 
+-- and, in addition to the sentences, entry i has place first + i, as the line of a file does.
 abbrev pub is_in_place : EntryAt → Declared → FileAt → Bool
 is_in_place e d f = e.at.place + (f.line + 1) == d.first + e.line
 
@@ -132,7 +137,8 @@ takes_frames other = false
 
 abbrev pub has_taker : Case → Told → Bool
 has_taker c t =
-    list_any (λ (a : Asked). a.told.phase == t.phase && not (a.told.actor == t.actor) && takes_frames a.command) c.asked
+    list_any (λ (a : Asked). a.told.phase == t.phase && not (a.told.actor == t.actor) && takes_frames a.command)
+    c.asked
 
 -- Its CLAIMED is at most its FREED plus the new capacity, and is that sum where CUT isn't 0 and no other actor of the
 -- phase has a read or a receive turn. CUT is 0 where the new capacity isn't below the one before.
@@ -167,7 +173,7 @@ file_numbers c = map (λ d. d.0) (numbered 0 c.setup.files)
 
 abbrev pub c_fails : Case → List ℕ
 c_fails c =
-    fails_as c.end is_file of_file (numbered 0 c.setup.files) c.files
+    fails_wanted c of_file is_file files_rise (numbered 0 c.setup.files) c.files
     ++ fails_each of_answer (λ a. stands_as c a.told a.answer) c.answers
     ++ fails_each of_entry (is_placed c) c.entries
     ++ fails_each of_entry (has_its_place c) c.entries

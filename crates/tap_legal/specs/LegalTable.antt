@@ -1,10 +1,11 @@
--- This project's own, clause a of a legal trace: operations, refusals by the table, and learnings.
-use Rattle.std.specs.Prelude.{ℕ, zero, suc, ◌+◌, ◌-◌, ◌==◌, ◌&&◌, ◌||◌, not, nat_le, if◌then◌else◌, Bool, true, false, List, [], ◌∷◌, ◌++◌, length, map, filter, flat_map, option_map, is_none, Option, Some, None}
+-- This project's own, clause a of a legal trace: operations, refusals by the table, and learnings. An answer is looked
+-- up by the number of its command alone; whose it is, and in which phase, is a matter of clause b.
+use Rattle.std.specs.Prelude.{ℕ, ◌+◌, ◌-◌, ◌==◌, ◌&&◌, ◌||◌, not, nat_le, if◌then◌else◌, Bool, true, false, List, [], ◌∷◌, ◌++◌, length, map, flat_map, is_none, option_and_then, Option, Some, None}
 use Rattle.std.specs.List.{list_any, list_all}
 use Rattle.std.specs.Option.{option_map_or}
 use Rattle.tap_flow_key.specs.FlowKey.{hash}
 use Rattle.tap_ledger.specs.declared.side.Side.{Side}
-use Rattle.tap_ledger.specs.declared.side.Side.TheVariants.{Rx, Tx}
+use Rattle.tap_ledger.specs.declared.side.Side.TheVariants.{Tx}
 use Rattle.tap_steer.specs.declared.operation.Op.{Op}
 use Rattle.tap_steer.specs.declared.operation.Op.TheVariants as op
 use Rattle.tap_steer.specs.Table.{file_at}
@@ -17,19 +18,20 @@ use Rattle.tap_trace.specs.declared.answer.Answer.TheVariants as answer
 use Rattle.tap_ledger.specs.declared.error.TapErr.{TapErr as TapText}
 use Rattle.tap_trace.specs.declared.causes.VhostText.TheVariants as text
 use Rattle.tap_world.specs.Frames.{Front, bad_in, ether_in}
+use Rattle.tap_world.specs.Guests.{is_ring}
 use Rattle.tap_world.specs.Setup.{op_of}
 use Rattle.tap_world.specs.StepBackend.{back_refusal, side_of}
-use Rattle.tap_legal.specs.Numbered.{AnswerAt, Asked, OpAt}
-use Rattle.tap_legal.specs.Same.{same_op, same_refusal}
+use Rattle.tap_legal.specs.Numbered.{AnswerAt, Asked, OpAt, Told}
+use Rattle.tap_legal.specs.Same.{same_op, same_refusal, same_side}
 use Rattle.tap_legal.specs.Case.{Case, fails_each, fails_order, of_answer, of_op}
 use Rattle.tap_legal.specs.LegalAnswers.{fits_write_at}
-use Rattle.tap_legal.specs.Replays.{Replays, flows_of, was_replayed}
-use Rattle.tap_legal.specs.Lookups.{answer_of, asked_at, has_learnt, is_learning, ops_of, own_ops, seen_before, some_version, table_at}
-use Rattle.tap_legal.specs.Served.{served_by}
+use Rattle.tap_legal.specs.Replay.{Began, Unset}
+use Rattle.tap_legal.specs.Replays.{Replays, begun_by, flows_of, unset_by, was_replayed}
+use Rattle.tap_legal.specs.Lookups.{answers_told, asked_at, command_of, is_learning, learnt_by, own_ops, some_look, table_at}
 
 -- ---- operations
 
--- No version is left out.
+-- In addition to the sentences: no version is left out.
 abbrev pub fails_versions : ℕ → List OpAt → List ℕ
 fails_versions version [] = []
 fails_versions version (o ∷ os) =
@@ -39,23 +41,34 @@ fails_versions version (o ∷ os) =
 abbrev pub is_lawful : Case → OpAt → Bool
 is_lawful c o = option_map_or (λ x. is_none (refuse (table_at c (o.at.version - 1)) x)) o.op false
 
--- the operation is the command's own: of a table command its operation, of a write a learning of its file, and of a
--- `backend` its file, or the one that the ring has
-abbrev pub is_its : Case → ℕ → Command → Op → Bool
-is_its c version (command.Write file bytes) (op.Learn f hash) = f == file
-is_its c version (command.TxTurn vhost) (op.Learn f hash) =
-    option_map_or (λ v. v == vhost) (backer Tx (file_at (table_at c (version - 1)) f)) false
-is_its c version (command.Backend vhost ring (Some file)) x = same_op x (op.Back file (side_of ring) (Some vhost))
-is_its c version (command.Backend vhost ring None) (op.Back f side v) =
-    same_op (op.Back f side v) (op.Back f (side_of ring) None)
-    && option_map_or (λ v. v == vhost) (backer side (file_at (table_at c (version - 1)) f)) false
-is_its c version other x = option_map_or (same_op x) (op_of c.setup other) false
+-- the table before a version names a vhost for this side of a file
+abbrev pub had_backer : Case → ℕ → ℕ → Side → ℕ → Bool
+had_backer c version file side vhost =
+    option_map_or (λ v. v == vhost) (backer side (file_at (table_at c (version - 1)) file)) false
+
+-- the operation may be one of the command: of a table command its operation; of a write or a transmit turn a learning,
+-- of its file or of one that the vhost has; of a `backend` that of its file, or of one that the vhost has
+abbrev pub is_op_of : Case → ℕ → Command → Op → Bool
+is_op_of c version (command.Write file bytes) (op.Learn f hash) = f == file
+is_op_of c version (command.TxTurn vhost) (op.Learn f hash) = had_backer c version f Tx vhost
+is_op_of c version (command.Backend vhost ring (Some file)) x =
+    is_ring ring && same_op x (op.Back file (side_of ring) (Some vhost))
+is_op_of c version (command.Backend vhost ring None) (op.Back f side None) =
+    is_ring ring && same_side side (side_of ring) && had_backer c version f side vhost
+is_op_of c version other x = option_map_or (same_op x) (op_of c.setup other) false
 
 -- and belongs to a command of its phase.
 abbrev pub is_of_phase : Case → OpAt → Bool
 is_of_phase c o =
-    option_map_or (λ (a : Asked). a.told.phase == o.phase && option_map_or (is_its c o.at.version a.command) o.op false)
+    option_map_or
+    (λ (a : Asked). a.told.phase == o.phase && option_map_or (is_op_of c o.at.version a.command) o.op false)
     (asked_at c o.at.command) false
+
+-- The file of an unset's operation is the one that the ring had in the replay, where the replay reached the unset.
+abbrev pub gives_up : Replays → OpAt → Option Op → Bool
+gives_up rs o (Some (op.Back file side None)) =
+    list_all (λ (u : Unset). option_map_or (λ f. f == file) u.file false) (unset_by o.at.command rs)
+gives_up rs o other = true
 
 -- ---- answers
 
@@ -68,17 +81,15 @@ version_in other = None
 -- Each `ok VERSION` is one operation of that command,
 abbrev pub is_published : Case → AnswerAt → Bool
 is_published c a =
-    option_map_or
-    (λ v. length (own_ops c a.told.command) == 1 && list_all (λ (o : OpAt). o.at.version == v)
-    (own_ops c a.told.command))
+    option_map_or (λ v. list_any (λ (o : OpAt). o.at.version == v) (own_ops c a.told.command))
     (version_in a.answer) true
 
 -- and each operation but a learning is one such answer.
+abbrev pub tells_version : ℕ → AnswerAt → Bool
+tells_version version a = option_map_or (λ v. v == version) (version_in a.answer) false
+
 abbrev pub is_answered : Case → OpAt → Bool
-is_answered c o =
-    is_learning o.op
-    || option_map_or (λ (a : AnswerAt). option_map_or (λ v. v == o.at.version) (version_in a.answer) false)
-    (answer_of c o.at.command) false
+is_answered c o = is_learning o.op || list_any (tells_version o.at.version) (answers_told c o.at.command)
 
 -- Each refusal of a table command is the table's at SEEN. A resize alone has a `resize` line.
 abbrev pub is_refusal : Case → ℕ → Op → TapText → Bool
@@ -93,17 +104,22 @@ answers_op c a x other = false
 
 abbrev pub is_table_answer : Case → AnswerAt → Bool
 is_table_answer c a =
-    option_map_or (λ x. answers_op c a x a.answer) (option_map_or (op_of c.setup) a.asked None) true
+    option_map_or (λ x. answers_op c a x a.answer) (option_and_then (op_of c.setup) (command_of c a.told.command)) true
 
--- For `backend` the ring's own refusals come first, then the table's at SEEN, then that of the header's size.
+-- For `backend` the ring's own refusals come first, then the table's at SEEN, then that of the header's size. It has no
+-- `resize` line.
 abbrev pub answers_back : Case → AnswerAt → Option Command → Answer → Bool
 answers_back c a (Some (command.Backend vhost ring file)) (answer.Tap e) =
     option_map_or (λ r. same_refusal r e) (back_refusal (table_at c a.seen) vhost ring file) false
 answers_back c a (Some (command.Backend vhost ring file)) (answer.Vhost (text.EHDR want have)) =
     is_none (back_refusal (table_at c a.seen) vhost ring file)
+answers_back c a (Some (command.Backend vhost ring file)) (answer.Resized version claimed freed cut) = false
 answers_back c a asked other = true
 
--- ---- learnings
+abbrev pub is_back_answer : Case → AnswerAt → Bool
+is_back_answer c a = answers_back c a (command_of c a.told.command) a.answer
+
+-- ---- learnings of writes
 
 -- the frame of a write is accepted at a version, and has this hash
 abbrev pub is_hash : Front → List ℕ → ℕ → Bool
@@ -113,44 +129,42 @@ abbrev pub is_hash_at : Case → ℕ → List ℕ → ℕ → ℕ → Bool
 is_hash_at c file bytes h version =
     option_map_or (λ front. is_hash front bytes h) (shape_of (table_at c version) file) false
 
-abbrev pub is_host : Answer → Bool
-is_host (answer.Host len fnv) = true
-is_host other = false
-
--- Each learning of a write is of its accepted frame, which is the one that its answer tells where that is one at all,
-abbrev pub is_frame_at : Case → AnswerAt → ℕ → List ℕ → ℕ → ℕ → Bool
-is_frame_at c a file bytes h version =
+-- Each learning of a write is of its accepted frame, whatever the answer says; where the answer is right at a version,
+-- the frame is the one of such a version,
+abbrev pub is_frame_at : Case → Told → AnswerAt → ℕ → List ℕ → ℕ → ℕ → Bool
+is_frame_at c t a file bytes h version =
     is_hash_at c file bytes h version
     && (fits_write_at c file bytes a.answer version
-    || not (some_version (seen_before c a.told) a.seen (fits_write_at c file bytes a.answer)))
+    || not (some_look c t a.seen (fits_write_at c file bytes a.answer)))
 
-abbrev pub learns_frame : Case → AnswerAt → Option Command → Option Op → Bool
-learns_frame c a (Some (command.Write file bytes)) (Some (op.Learn f h)) =
-    is_host a.answer && some_version (seen_before c a.told) a.seen (is_frame_at c a file bytes h)
-learns_frame c a asked x = true
+abbrev pub learns_frame : Case → Command → Option Op → Told → AnswerAt → Bool
+learns_frame c (command.Write file bytes) (Some (op.Learn f h)) t a =
+    some_look c t a.seen (is_frame_at c t a file bytes h)
+learns_frame c k x t a = true
 
 abbrev pub is_of_frame : Case → OpAt → Bool
 is_of_frame c o =
-    option_map_or (λ (a : AnswerAt). learns_frame c a a.asked o.op) (answer_of c o.at.command)
-    (not (is_learning o.op))
+    not (is_learning o.op)
+    || option_map_or
+    (λ (x : Asked). list_any (learns_frame c x.command o.op x.told) (answers_told c o.at.command))
+    (asked_at c o.at.command) false
 
 -- at most one for each.
+abbrev pub is_write : Option Command → Bool
+is_write (Some (command.Write file bytes)) = true
+is_write other = false
+
 abbrev pub is_other_frame : Case → OpAt → OpAt → Bool
 is_other_frame c o p =
-    not (is_learning o.op && is_learning p.op && o.at.command == p.at.command && option_map_or is_host
-    (option_map (λ (a : AnswerAt). a.answer) (answer_of c o.at.command)) false)
-
--- A frame has one only where its file learns at a version from what the actor had seen before the command up to SEEN,
--- and lacks one only where it doesn't at such a version.
-abbrev pub may_learn : Case → AnswerAt → Option Command → Bool
-may_learn c a (Some (command.Write file bytes)) =
-    let learnt : Bool = has_learnt c a.told.command in
-    not (is_host a.answer)
-    || some_version (seen_before c a.told) a.seen
-    (λ v. if learnt then learns (table_at c v) file else not (learns (table_at c v) file))
-may_learn c a other = true
+    not (is_learning o.op && is_learning p.op && o.at.command == p.at.command && is_write (command_of c p.at.command))
 
 -- ---- learnings of transmit turns, where the replay reached the turn's end
+
+-- a learning is of the file that the ring had as the turn began
+abbrev pub is_turn_file : Replays → OpAt → Option Op → Bool
+is_turn_file rs o (Some (op.Learn file h)) =
+    list_all (λ (t : Began). option_map_or (λ f. f == file) t.file false) (begun_by o.at.command rs)
+is_turn_file rs o other = true
 
 abbrev pub hash_in : Option Op → ℕ
 hash_in (Some (op.Learn file h)) = h
@@ -162,28 +176,41 @@ unmatched [] os = map of_op os
 unmatched (f ∷ fs) [] = []
 unmatched (f ∷ fs) (o ∷ os) = unmatched fs (if f == hash_in o.op then os else o ∷ os)
 
-abbrev pub learnt_by : Case → ℕ → List OpAt
-learnt_by c command = filter (λ (o : OpAt). is_learning o.op) (ops_of c command)
-
--- A frame has one only where its file learns at a version from what was seen before up to SEEN, and lacks one only
--- where it doesn't at such a version.
-abbrev pub may_learn_on : Case → AnswerAt → ℕ → ℕ → ℕ → Bool
-may_learn_on c a frames learnt file =
-    (learnt == 0 || some_version (seen_before c a.told) a.seen (λ v. learns (table_at c v) file))
-    && (nat_le frames learnt || some_version (seen_before c a.told) a.seen (λ v. not (learns (table_at c v) file)))
-
-abbrev pub turn_learns : Case → Replays → AnswerAt → Bool
-turn_learns c rs a =
-    let frames : ℕ = length (flows_of a.told.command rs) in
-    option_map_or (may_learn_on c a frames (length (learnt_by c a.told.command))) (served_by c a.told.command) true
-
-abbrev pub turn_fails : Case → Replays → AnswerAt → Option Command → List ℕ
-turn_fails c rs a (Some (command.TxTurn vhost)) =
-    if was_replayed a.told.command rs
-    then unmatched (flows_of a.told.command rs) (learnt_by c a.told.command) ++
-    (if turn_learns c rs a then [] else a.line ∷ [])
+abbrev pub turn_fails : Case → Replays → ℕ → Command → List ℕ
+turn_fails c rs n (command.TxTurn vhost) =
+    if was_replayed n rs
+    then fails_each of_op (λ (o : OpAt). is_turn_file rs o o.op) (learnt_by c n)
+    ++ unmatched (flows_of n rs) (learnt_by c n)
     else []
-turn_fails c rs a other = []
+turn_fails c rs n other = []
+
+-- ---- where a frame's flow is learnt
+
+abbrev pub is_host : Answer → Bool
+is_host (answer.Host len fnv) = true
+is_host other = false
+
+-- A frame has a learning only where its file learns at a version from what the actor had seen before the command up to
+-- SEEN, and lacks one only where it doesn't at such a version.
+abbrev pub may_learn_on : Case → Told → AnswerAt → ℕ → ℕ → Bool
+may_learn_on c t a frames file =
+    let learnt : ℕ = length (learnt_by c t.command) in
+    (learnt == 0 || some_look c t a.seen (λ v. learns (table_at c v) file))
+    && (nat_le frames learnt || some_look c t a.seen (λ v. not (learns (table_at c v) file)))
+
+-- a write has one frame where its answer says so, a turn those that it accepted, on the file that its ring had
+abbrev pub may_learn_as : Case → Replays → Told → AnswerAt → Command → Bool
+may_learn_as c rs t a (command.Write file bytes) = may_learn_on c t a (if is_host a.answer then 1 else 0) file
+may_learn_as c rs t a (command.TxTurn vhost) =
+    not (was_replayed t.command rs)
+    || list_all
+    (λ (b : Began). option_map_or (may_learn_on c t a (length (flows_of t.command rs))) b.file true)
+    (begun_by t.command rs)
+may_learn_as c rs t a other = true
+
+abbrev pub may_learn : Case → Replays → AnswerAt → Bool
+may_learn c rs a =
+    option_map_or (λ (x : Asked). may_learn_as c rs x.told a x.command) (asked_at c a.told.command) true
 
 -- ---- the clause
 
@@ -192,11 +219,12 @@ a_fails c rs =
     fails_versions 1 c.ops
     ++ fails_each of_op (is_lawful c) c.ops
     ++ fails_each of_op (is_of_phase c) c.ops
+    ++ fails_each of_op (λ (o : OpAt). gives_up rs o o.op) c.ops
     ++ fails_each of_answer (is_published c) c.answers
     ++ fails_each of_op (is_answered c) c.ops
     ++ fails_each of_answer (is_table_answer c) c.answers
-    ++ fails_each of_answer (λ a. answers_back c a a.asked a.answer) c.answers
+    ++ fails_each of_answer (is_back_answer c) c.answers
     ++ fails_each of_op (is_of_frame c) c.ops
     ++ fails_order of_op (is_other_frame c) c.ops
-    ++ fails_each of_answer (λ a. may_learn c a a.asked) c.answers
-    ++ flat_map (λ (a : AnswerAt). turn_fails c rs a a.asked) c.answers
+    ++ flat_map (λ (x : Asked). turn_fails c rs x.told.command x.command) c.asked
+    ++ fails_each of_answer (may_learn c rs) c.answers

@@ -1,10 +1,13 @@
 -- This project's own: the look-ups in a trace. Nothing else reads its lines a second time.
-use Rattle.std.specs.Prelude.{ℕ, zero, suc, ◌+◌, ◌-◌, ◌==◌, ◌&&◌, ◌||◌, not, nat_lt, nat_le, max, if◌then◌else◌, Bool, false, List, [], ◌∷◌, filter, find, slice_get, slice_index_or, option_map, Option, Some, None, min, length, option_and_then, true}
+use Rattle.std.specs.Prelude.{ℕ, zero, suc, ◌+◌, ◌-◌, ◌==◌, ◌&&◌, ◌||◌, not, nat_lt, nat_le, max, if◌then◌else◌, Bool, false, List, [], ◌∷◌, filter, find, slice_get, slice_index_or, option_map, Option, Some, None, min, length, option_and_then, is_none, true}
 use Rattle.tap_steer.specs.declared.operation.Op.{Op}
 use Rattle.tap_steer.specs.declared.operation.Op.TheVariants as op
 use Rattle.std.specs.List.{list_any}
 use Rattle.std.specs.Option.{option_map_or}
+use Rattle.tap_frame.specs.declared.header.Hdr.{Hdr}
 use Rattle.tap_frame.specs.declared.name.Name.{Name}
+use Rattle.tap_steer.specs.declared.selection.Select.{Select}
+use Rattle.tap_steer.specs.Select as steer
 use Rattle.tap_steer.specs.Table.{Table, file_at}
 use Rattle.scen_words.specs.declared.command.Command.{Command}
 use Rattle.scen_words.specs.declared.command.Command.TheVariants as command
@@ -12,7 +15,9 @@ use Rattle.tap_trace.specs.declared.answer.Answer.{Answer}
 use Rattle.tap_trace.specs.declared.answer.Answer.TheVariants as answer
 use Rattle.tap_ground.specs.Options.{only_if}
 use Rattle.tap_world.specs.ByNumber.{at}
+use Rattle.tap_world.specs.Frames.{bad_in, ether_in, sent_bytes, sent_front}
 use Rattle.tap_world.specs.Setup.{Declared, opening_table}
+use Rattle.tap_world.specs.Stands.{same_name}
 use Rattle.tap_world.specs.StepTable.{is_enabled}
 use Rattle.tap_legal.specs.Numbered.{AnswerAt, Asked, EntryAt, FileAt, OpAt, Told, same_told}
 use Rattle.tap_legal.specs.Case.{Case}
@@ -39,10 +44,17 @@ asked_at c number = slice_get c.asked number
 abbrev pub told_of : Case → ℕ → Option Told
 told_of c number = option_map (λ (a : Asked). a.told) (asked_at c number)
 
+abbrev pub command_of : Case → ℕ → Option Command
+command_of c number = option_map (λ (a : Asked). a.command) (asked_at c number)
+
 -- the answer of a command: that of its own actor in its own phase
 abbrev pub answer_of : Case → ℕ → Option AnswerAt
 answer_of c number =
     option_and_then (λ (a : Asked). find (λ (x : AnswerAt). same_told x.told a.told) c.answers) (asked_at c number)
+
+-- the answers that tell a command's number, of any actor and in any phase: clause a asks for no more
+abbrev pub answers_told : Case → ℕ → List AnswerAt
+answers_told c number = filter (λ (a : AnswerAt). a.told.command == number) c.answers
 
 -- ---- versions and tables
 
@@ -50,17 +62,17 @@ answer_of c number =
 abbrev pub ops_of : Case → ℕ → List OpAt
 ops_of c command = filter (λ (o : OpAt). o.at.command == command) c.ops
 
--- an operation, the command's own and no learning
+-- an operation teaches a file's device the flow of a frame
 abbrev pub is_learning : Option Op → Bool
 is_learning (Some (op.Learn file hash)) = true
 is_learning other = false
 
+-- those that a command is for, which are no learnings; and its learnings
 abbrev pub own_ops : Case → ℕ → List OpAt
-own_ops c n = filter (λ (o : OpAt). not (is_learning o.op)) (ops_of c n)
+own_ops c command = filter (λ (o : OpAt). not (is_learning o.op)) (ops_of c command)
 
--- a command learnt the flow of a frame
-abbrev pub has_learnt : Case → ℕ → Bool
-has_learnt c n = list_any (λ (o : OpAt). is_learning o.op) (ops_of c n)
+abbrev pub learnt_by : Case → ℕ → List OpAt
+learnt_by c command = filter (λ (o : OpAt). is_learning o.op) (ops_of c command)
 
 -- the table at a version: after as many operations, of which there may be fewer
 abbrev pub table_at : Case → ℕ → Table
@@ -103,6 +115,15 @@ versions low (suc more) = low ∷ versions (low + 1) more
 -- a version from one up to another passes a test
 abbrev pub some_version : ℕ → ℕ → (ℕ → Bool) → Bool
 some_version low high test = list_any test (versions low (high + 1 - low))
+
+-- a version at which a command may have looked: from what its actor had seen before it up to a SEEN
+abbrev pub some_look : Case → Told → ℕ → (ℕ → Bool) → Bool
+some_look c t seen test = some_version (seen_before c t) seen test
+
+-- a version at which an answer still holds: from its SEEN on, of its phase, and below the next one that its actor
+-- publishes
+abbrev pub some_now : Case → AnswerAt → (Table → Bool) → Bool
+some_now c a test = some_version a.seen (newest_of c a.told.phase) (λ v. is_below_own c a.told v && test (table_at c v))
 
 -- ---- attachments
 
@@ -147,11 +168,26 @@ freed_of c file = option_map_or (λ (f : FileAt). f.part.freed) (part_of c file)
 abbrev pub entry_at : Case → ℕ → ℕ → Option EntryAt
 entry_at c file place = find (λ (e : EntryAt). e.file == file && e.at.place == place) c.entries
 
-abbrev pub same_name : Name → Name → Bool
-same_name a b = a.actor == b.actor && a.turn == b.turn && a.part == b.part
-
 abbrev pub entry_named : Case → Name → Option EntryAt
 entry_named c name = find (λ (e : EntryAt). same_name e.at.name name) c.entries
+
+-- ---- frames that are sent
+
+-- a command sends a frame that is accepted
+abbrev pub is_accepted : Command → Bool
+is_accepted (command.Send name hdr bytes) = is_none (bad_in (sent_front hdr) (sent_bytes hdr bytes))
+is_accepted other = false
+
+-- the name is that of a frame that was sent and accepted
+abbrev pub is_sent : Case → Name → Bool
+is_sent c n =
+    option_map_or (λ (a : Asked). a.told.actor == n.actor && n.part == 0 && is_accepted a.command)
+    (asked_at c n.turn) false
+
+-- what the table at a version selects for a frame that is sent
+abbrev pub row_at : Case → ℕ → ℕ → Option Hdr → List ℕ → Select
+row_at c version name hdr bytes =
+    steer.select (table_at c version) name (ether_in (sent_front hdr) (sent_bytes hdr bytes))
 
 -- ---- places that answers tell
 

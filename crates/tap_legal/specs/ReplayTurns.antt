@@ -2,7 +2,7 @@
 -- turn has steps on the file or the host alone, which aren't printed.
 use Rattle.std.specs.Prelude.{ℕ, ◌==◌, ◌&&◌, not, if◌then◌else◌, Bool, true, false, List, [], ◌∷◌, ◌++◌, length, filter, find, Option, Some, None, option_map, option_and_then}
 use Rattle.std.specs.List.{list_any}
-use Rattle.std.specs.Option.{option_map_or}
+use Rattle.std.specs.Option.{option_map_or, option_or}
 use Rattle.guest_mem.specs.Memory.{Contents}
 use Rattle.tap_flow_key.specs.FlowKey.{hash}
 use Rattle.tap_frame.specs.Frame.{FrameValue}
@@ -10,7 +10,7 @@ use Rattle.tap_ledger.specs.declared.act.Act.{Act}
 use Rattle.tap_ledger.specs.declared.act.Act.TheVariants as act
 use Rattle.tap_ledger.specs.declared.hand.Hand.TheVariants as hand
 use Rattle.vhost_queue.specs.Queue.{Queue}
-use Rattle.vhost_dev.specs.Settings.{hdr_of}
+use Rattle.vhost_dev.specs.Settings.{hdr_of, ring_at}
 use Rattle.vring_turns.specs.declared.stage.RxStage.{RxStage}
 use Rattle.vring_turns.specs.declared.stage.RxStage.TheVariants as rx
 use Rattle.vring_turns.specs.declared.stage.TxStage.{TxStage}
@@ -29,30 +29,30 @@ use Rattle.tap_world.specs.Guests.{Vhost, with_queue, with_turn}
 use Rattle.tap_world.specs.World.{name_of}
 use Rattle.tap_world.specs.StepTurns.{end_told, is_off, kind_of, rx_over, rx_state, turn_on}
 use Rattle.tap_world.specs.StepTransmits.{chains_after, tx_over, tx_state}
-use Rattle.tap_legal.specs.Numbered.{AnswerAt, Asked, StepAt}
+use Rattle.tap_legal.specs.Numbered.{Asked, StepAt}
 use Rattle.tap_legal.specs.Case.{Case}
-use Rattle.tap_legal.specs.Lookups.{answer_of, asked_at}
-use Rattle.tap_legal.specs.Replay.{Accepted, Began, Packet, Replay, Turning, Under, ahead, answers, broken_at, hand_for, if_step, replay_back, replay_bytes, replay_call}
+use Rattle.tap_legal.specs.Lookups.{asked_at}
+use Rattle.tap_legal.specs.Replay.{Accepted, Began, Packet, Replay, Turning, Under, ahead, broken_at, done_with, hand_for, if_step, replay_back, replay_bytes, replay_call}
 use Rattle.tap_legal.specs.Replay.Turning.{Receiving, Sending}
 
 -- ---- turns under way
 
-abbrev pub ring_of : Turning → ℕ
-ring_of (Receiving t) = 0
-ring_of (Sending t chains) = 1
+abbrev pub turning_on : Turning → ℕ
+turning_on (Receiving t) = 0
+turning_on (Sending t chains) = 1
 
-abbrev pub is_on : ℕ → ℕ → Under → Bool
-is_on vhost ring u = u.vhost == vhost && ring_of u.turning == ring
+abbrev pub is_under_on : ℕ → ℕ → Under → Bool
+is_under_on vhost ring u = u.vhost == vhost && turning_on u.turning == ring
 
 abbrev pub under_on : ℕ → ℕ → Replay → Option Under
-under_on vhost ring r = find (is_on vhost ring) r.under
+under_on vhost ring r = find (is_under_on vhost ring) r.under
 
 abbrev pub without : Under → Replay → Replay
-without u r = record r { under = filter (λ x. not (is_on u.vhost (ring_of u.turning) x)) r.under }
+without u r = record r { under = filter (λ x. not (is_under_on u.vhost (turning_on u.turning) x)) r.under }
 
 -- the turn is over; it answers, unless it has steps to come, of which the next is wrong
 abbrev pub over : Case → ℕ → Bool → Answer → Replay → Replay
-over c command true x r = answers c command x r
+over c command true x r = done_with c command x r
 over c command false x r = record r { finished = command ∷ r.finished }
 
 -- the turn goes on, or is over; the ring has this queue, and its turn is held by the command till then
@@ -62,20 +62,27 @@ with_under c ss u q m None v r =
       under = u ∷ (without u r).under;
       memory = m;
       vhosts = with_at u.vhost
-          (with_turn (ring_of u.turning) (Some u.command) (with_queue (ring_of u.turning) q v)) r.vhosts;
+          (with_turn (turning_on u.turning) (Some u.command) (with_queue (turning_on u.turning) q v)) r.vhosts;
     }
 with_under c ss u q m (Some x) v r =
     over c u.command (length (ahead u.command ss) == 0) x (record (without u r) {
       memory = m;
-      vhosts = with_at u.vhost (with_turn (ring_of u.turning) None (with_queue (ring_of u.turning) q v)) r.vhosts;
+      vhosts = with_at u.vhost
+          (with_turn (turning_on u.turning) None (with_queue (turning_on u.turning) q v)) r.vhosts;
     })
 
--- what the turn answers that is over
+-- what the turn answers that is over; an end without words, which no turn has, is no answer, and no step follows it
 abbrev pub rx_answer : RxTurn → Option Answer
-rx_answer t = option_map (λ e. answer.Turn t.packets t.bytes (end_told e) []) (rx_over t.stage)
+rx_answer t = do
+  e ← rx_over t.stage
+  told ← end_told e
+  Some (answer.Turn t.packets t.bytes told [])
 
 abbrev pub tx_answer : TxTurn → List ChainText → Option Answer
-tx_answer t chains = option_map (λ e. answer.Turn t.packets t.bytes (end_told e) chains) (tx_over t.stage)
+tx_answer t chains = do
+  e ← tx_over t.stage
+  told ← end_told e
+  Some (answer.Turn t.packets t.bytes told chains)
 
 abbrev pub rx_left : Case → List StepAt → Under → Vhost → Replay → RxState × Act → Replay
 rx_left c ss u v r made =
@@ -94,7 +101,7 @@ tx_left c ss u chains v r made =
     (tx_answer made.0.turn after) v
     (record r { accepted = r.accepted ++ accepted_by u.command made.1 made.0.turn.held })
 
--- ---- steps that aren't printed
+-- ---- quiet steps: those on the file or the host alone, which aren't printed
 
 -- the packet that is over as its frame leaves the worker's hand
 abbrev pub packet_at : Under → RxTurn → RxStage → List Packet
@@ -109,8 +116,8 @@ packet_at u t (rx.Discard had) =
     record { command = u.command; name = None; header = t.header; quota = quota t.mergeable; had = had } ∷ []
 packet_at u t other = []
 
-abbrev pub taken : Under → RxTurn → Replay → Replay
-taken u t r = record r { packets = r.packets ++ packet_at u t t.stage }
+abbrev pub with_packet : Under → RxTurn → Replay → Replay
+with_packet u t r = record r { packets = r.packets ++ packet_at u t t.stage }
 
 abbrev pub is_quiet_rx : RxStage → Bool
 is_quiet_rx rx.Hand = true
@@ -126,7 +133,7 @@ is_quiet_tx other = false
 abbrev pub quiet_of : Case → List StepAt → Under → Turning → Vhost → Replay → Replay
 quiet_of c ss u (Receiving t) v r =
     if is_quiet_rx t.stage
-    then option_map_or (λ made. rx_left c ss u v (taken u t r) made)
+    then option_map_or (λ made. rx_left c ss u v (with_packet u t r) made)
     (rx_step (hand_for c u t ss) (rx_state t v r.memory))
     r
     else r
@@ -136,7 +143,7 @@ quiet_of c ss u (Sending t chains) v r =
     r
     else r
 
--- one of them, where the turn on a ring is before one; there are at most two in a row
+-- a quiet step, where the turn on a ring is before one; there are at most two in a row
 abbrev pub quiet : Case → List StepAt → ℕ → ℕ → Replay → Replay
 quiet c ss vhost ring r =
     option_map_or (λ u. option_map_or (λ v. quiet_of c ss u u.turning v r) (at r.vhosts vhost) r)
@@ -161,21 +168,27 @@ turn_begun ring command actor v =
     if ring == 0 then Receiving (rx_begun v.settings.mrg (hdr_of v.settings))
     else Sending (tx_begun (hdr_of v.settings) (name_of actor command)) []
 
-abbrev pub begun : Case → StepAt → List StepAt → ℕ → ℕ → Vhost → Option (TurnText × Kind) → Replay → Option Replay
+abbrev pub begun :
+    Case → StepAt → List StepAt → ℕ → ℕ → Vhost → Option (TurnText × Kind) → Replay → Option Replay
 begun c s ss vhost ring v (Some told) r =
-    Some (if_step s (Some told.1) r (answers c s.at.command (answer.Turn 0 0 told.0 []) r))
+    Some (if_step s (Some told.1) r (done_with c s.at.command (answer.Turn 0 0 told.0 []) r))
 begun c s ss vhost ring v None r =
     let u : Under = record {
       vhost = vhost;
       command = s.at.command;
       turning = turn_begun ring s.at.command s.at.actor v;
     } in
-    let t : Began = record { command = s.at.command; header = hdr_of v.settings } in
+    let t : Began = record {
+      command = s.at.command;
+      header = hdr_of v.settings;
+      file = (ring_at ring v.settings).file;
+    } in
     step_of c s ss u u.turning v (record r { turns = r.turns ++ t ∷ [] })
 
 -- the next step of the command's turn, or its first one, where no other turn is under way on the ring
 abbrev pub turn_step : Case → StepAt → List StepAt → ℕ → ℕ → Vhost → Option Under → Replay → Option Replay
-turn_step c s ss vhost ring v (Some u) r = if u.command == s.at.command then step_of c s ss u u.turning v r else None
+turn_step c s ss vhost ring v (Some u) r =
+    if u.command == s.at.command then step_of c s ss u u.turning v r else None
 turn_step c s ss vhost ring v None r =
     if list_any (λ n. n == s.at.command) r.finished then None else begun c s ss vhost ring v (is_off vhost ring v) r
 
@@ -187,16 +200,12 @@ replay_turn c s ss k r = do
 
 -- ---- the fold
 
-abbrev pub or_else : Option Replay → Option Replay → Option Replay
-or_else None b = b
-or_else (Some a) b = Some a
-
 -- a step is one of its command's: of its turn, or the only one of its call
 abbrev pub replay_as : Case → StepAt → List StepAt → Command → Replay → Option Replay
 replay_as c s ss k r =
     if list_any (λ n. n == s.at.command) r.finished then None
-    else or_else (replay_turn c s ss k r)
-    (or_else (replay_back c s k r) (or_else (replay_call c s k r) (replay_bytes c s k r)))
+    else option_or (replay_turn c s ss k r)
+    (option_or (replay_back c s k r) (option_or (replay_call c s k r) (replay_bytes c s k r)))
 
 abbrev pub replay_step : Case → StepAt → List StepAt → Replay → Replay
 replay_step c s ss r =

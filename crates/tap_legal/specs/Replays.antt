@@ -8,7 +8,7 @@ use Rattle.tap_world.specs.ByNumber.{numbered}
 use Rattle.tap_world.specs.Guests.{Vhost, new_vhost}
 use Rattle.tap_legal.specs.Numbered.{Asked, OpAt, StepAt}
 use Rattle.tap_legal.specs.Case.{Case}
-use Rattle.tap_legal.specs.Replay.{Accepted, Began, Packet, Replay}
+use Rattle.tap_legal.specs.Replay.{Accepted, Began, Packet, Replay, Unset}
 use Rattle.tap_legal.specs.ReplayTurns.{replay}
 use Rattle.tap_legal.specs.Served.{makes_worker, setter_of}
 
@@ -28,6 +28,7 @@ fresh c guest regions = record {
   packets = [];
   accepted = [];
   turns = [];
+  unsets = [];
   finished = [];
   fails = [];
   broken = false;
@@ -47,11 +48,16 @@ replays c = map (replay_of c) (numbered 0 c.setup.guests)
 abbrev pub is_whole : Replays → Bool
 is_whole rs = not (list_any (λ (r : ℕ × Replay). r.1.broken) rs)
 
--- the header's size of a turn
+-- the turn of a command, as it began, and the header's size of its vhost
+abbrev pub begun_by : ℕ → Replays → List Began
+begun_by command rs = flat_map (λ (r : ℕ × Replay). filter (λ (t : Began). t.command == command) r.1.turns) rs
+
 abbrev pub headers_of : ℕ → Replays → List ℕ
-headers_of command rs =
-    flat_map (λ (r : ℕ × Replay). map (λ (t : Began). t.header)
-    (filter (λ (t : Began). t.command == command) r.1.turns)) rs
+headers_of command rs = map (λ (t : Began). t.header) (begun_by command rs)
+
+-- the unset of a command
+abbrev pub unset_by : ℕ → Replays → List Unset
+unset_by command rs = flat_map (λ (r : ℕ × Replay). filter (λ (u : Unset). u.command == command) r.1.unsets) rs
 
 -- the turn was replayed to its end
 abbrev pub was_replayed : ℕ → Replays → Bool

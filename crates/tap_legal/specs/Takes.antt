@@ -1,6 +1,6 @@
 -- This project's own: which commands took a frame out of its line: a read, the turn that copied it to a guest, the
 -- operation that ended its epoch, or the resize that cut it.
-use Rattle.std.specs.Prelude.{ℕ, ◌+◌, ◌==◌, ◌&&◌, not, nat_lt, if◌then◌else◌, Bool, true, false, List, [], ◌∷◌, ◌++◌, map, reverse, take, filter, filter_map, option_map, option_to_list, Option, Some, None}
+use Rattle.std.specs.Prelude.{ℕ, ◌+◌, ◌==◌, ◌&&◌, not, nat_lt, if◌then◌else◌, Bool, true, false, List, [], ◌∷◌, ◌++◌, map, reverse, take, filter, filter_map, option_to_list, Option, Some, None}
 use Rattle.std.specs.List.{list_any}
 use Rattle.std.specs.Option.{option_map_or}
 use Rattle.tap_frame.specs.declared.name.Name.{Name}
@@ -14,9 +14,10 @@ use Rattle.tap_trace.specs.declared.answer.Answer.TheVariants as answer
 use Rattle.tap_trace.specs.declared.kind.Kind.{Kind}
 use Rattle.tap_trace.specs.declared.kind.Kind.TheVariants as kind
 use Rattle.tap_ground.specs.Options.{◌>>=◌, only_if}
-use Rattle.tap_legal.specs.Numbered.{AnswerAt, Asked, EntryAt, OpAt, StepAt, Told}
+use Rattle.tap_world.specs.Stands.{same_name}
+use Rattle.tap_legal.specs.Numbered.{AnswerAt, EntryAt, OpAt, StepAt, Told}
 use Rattle.tap_legal.specs.Case.{Case}
-use Rattle.tap_legal.specs.Lookups.{answer_of, ending_of, is_before, same_name, taken_from, told_of}
+use Rattle.tap_legal.specs.Lookups.{answer_of, ending_of, is_before, taken_from, told_of}
 
 -- ---- fates
 

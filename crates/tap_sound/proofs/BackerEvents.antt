@@ -19,10 +19,11 @@ use Rattle.tap_world.specs.World.{Doing, World, newest, table}
 use Rattle.tap_world.specs.World.Doing.{Backed, Backs, Begun, Changes, Disowned, Opened, Opens, Owns, Purges, Released, Resizes, Shrinks, Unbacked, Withdrawn, Withdraws}
 use Rattle.tap_world.specs.Effect.{Effect, Onward, only, ended, OnVhosts, vhosts_after}
 use Rattle.tap_world.specs.Effect.Onward.{Goes}
-use Rattle.tap_world.specs.Sound.{EachActor, WriterIsHeld, holds}
+use Rattle.tap_world.specs.Each.{EachActor}
+use Rattle.tap_world.specs.Sound.{WriterIsHeld, holds}
 use Rattle.tap_world.specs.SoundActors.{can_be}
 use Rattle.tap_world.specs.SoundTable.{IsAsFound, commanded, writing, backer_by, is_on, is_rx_side}
-use Rattle.tap_sound.proofs.Kit.{some_same}
+use Rattle.tap_sound.proofs.Kit.{some_same, then_some}
 use Rattle.tap_sound.proofs.Shapes.{IsLast, Shape}
 use Rattle.tap_sound.proofs.Shapes.Shape.{Giving, Approves, BackApproves, BackDrives, BackPublishes, Calling, Learning, Owning, Publishing, Quiet, Reopening, RxTurning, Shutting, Sizing, Touching, Trims, TxTurning, Withdrawing}
 use Rattle.tap_sound.proofs.Standing.{answered, first_passed, ring_there}
@@ -48,8 +49,6 @@ use Rattle.scen_words.specs.declared.command.Command.TheVariants as command
 use Rattle.tap_world.specs.declared.event.Found.TheVariants as found
 use Rattle.tap_world.specs.StepBackend as back_steps
 use Rattle.tap_world.specs.StepTable as tables
-use Rattle.tap_world.specs.StepTurns as rx_turns
-use Rattle.tap_world.specs.StepTransmits as tx_turns
 
 abbrev pub Backings : Setup → World → Type 0
 Backings s w = HaveBackends (writing w) (commanded w) (table s w) w.vhosts
@@ -178,7 +177,7 @@ module _ (s : Setup) (w : World) (x : Event) (u : World) (t : IsStep s w x u) wh
       go true same = from_one vhost v (with_turn ring None v) same at_ (turn_files ring None v)
       go false same = from_one vhost v v same at_ (λ q. refl)
 
-  unset_backings : (vhost ring : ℕ) (v : Vhost) (m : Contents) (a : Option VhostErr) (o : Option ℕ) → at w.vhosts vhost ≡ Some v → (ring_at ring v.settings).file ≡ o
+  unset_backings : (vhost ring : ℕ) (v : Vhost) (m : Contents) (a : Option Answer) (o : Option ℕ) → at w.vhosts vhost ≡ Some v → (ring_at ring v.settings).file ≡ o
       → View w t.between (Backs None) (doing_after t.effect.onward (Backs None)) (command.Backend vhost ring None)
       → back_steps.unsets_back w x.actor t.actor.seen vhost ring v m a o ≡ t.effect → Backings s w → Backings s t.between
   unset_backings vhost ring v m (Some a) o at_ has view_ eq h =
@@ -256,17 +255,20 @@ no_backend ring m v e = none_of (ring_at ring v.settings).file (first_passed _ _
 back_driven : (s : Setup) (w : World) (x : Event) (u : World) (t : IsStep s w x u) (refusal : Option TapText) (vhost ring : ℕ) (file : Option ℕ) (v : Vhost) (m : Contents)
     → (file ≡ None → refusal ≡ None) → at w.vhosts vhost ≡ Some v
     → View w t.between (Backs refusal) (doing_after t.effect.onward (Backs refusal)) (command.Backend vhost ring file)
-    → back_steps.back_call s w x.actor t.actor.seen refusal vhost ring file v m ≡ t.effect → FitsWorld s w → Backings s w → Backings s t.between
+    → back_steps.back_call s w x.actor t.actor.seen refusal vhost ring file v m ≡ Some t.effect → FitsWorld s w → Backings s w → Backings s t.between
 back_driven s w x u t None vhost ring None v m no_ at_ view_ eq f h =
-    unset_backings s w x u t vhost ring v m (number_refusal ring) (ring_at ring v.settings).file at_ refl view_ eq h
+    let b = then_some (back_steps.refused_by (number_refusal ring)) _ t.effect eq in
+    unset_backings s w x u t vhost ring v m b.0 (ring_at ring v.settings).file at_ refl view_ (some_same _ t.effect b.2) h
 back_driven s w x u t (Some r) vhost ring None v m no_ at_ view_ eq f h = absurd (cc (no_ refl))
 back_driven s w x u t None vhost ring (Some file) v m no_ at_ view_ eq f h =
-    set_backings s w x u t vhost ring file None v m (back_steps.back_answer (ready_refusal ring m v.settings) None (back_steps.unfit_for (steer.shape_of (table s w) file) v.settings)) at_
-    (λ e. let a = answered _ _ _ e in (no_backend ring m v a.0, ring_there ring (first_passed _ _ _ a.0), a.1))
-    (found_here s w t.between (Backs None) _ (command.Backend vhost ring (Some file)) view_ refl f) view_ eq h
+    let b = then_some (back_steps.back_answer (ready_refusal ring m v.settings) None (back_steps.unfit_for (steer.shape_of (table s w) file) v.settings)) _ t.effect eq in
+    set_backings s w x u t vhost ring file None v m b.0 at_
+    (λ e. let a = answered _ _ _ (b.1 ∙ ap (λ (o : Option Answer). Some o) e) in (no_backend ring m v a.0, ring_there ring (first_passed _ _ _ a.0), a.1))
+    (found_here s w t.between (Backs None) _ (command.Backend vhost ring (Some file)) view_ refl f) view_ (some_same _ t.effect b.2) h
 back_driven s w x u t (Some r) vhost ring (Some file) v m no_ at_ view_ eq f h =
-    set_backings s w x u t vhost ring file (Some r) v m (back_steps.back_answer (ready_refusal ring m v.settings) (Some r) (back_steps.unfit_for (steer.shape_of (table s w) file) v.settings)) at_
-    (λ e. let a = answered _ _ _ e in (no_backend ring m v a.0, ring_there ring (first_passed _ _ _ a.0), a.1)) tt view_ eq h
+    let b = then_some (back_steps.back_answer (ready_refusal ring m v.settings) (Some r) (back_steps.unfit_for (steer.shape_of (table s w) file) v.settings)) _ t.effect eq in
+    set_backings s w x u t vhost ring file (Some r) v m b.0 at_
+    (λ e. let a = answered _ _ _ (b.1 ∙ ap (λ (o : Option Answer). Some o) e) in (no_backend ring m v a.0, ring_there ring (first_passed _ _ _ a.0), a.1)) tt view_ (some_same _ t.effect b.2) h
 
 backings_between : (s : Setup) (w : World) (x : Event) (u : World) (t : IsStep s w x u) → can_be t.actor.doing t.now.command ≡ true
     → Shape s w x.actor t.actor.seen t.actor.doing t.now.command t.effect
@@ -339,14 +341,14 @@ backings_between s w x u t can (Calling vhost v g y is of a b call may eq) view_
     (from_one s w x u t vhost v y.vhost (on_vhosts s w x u t _ eq) a (call_files t.now.command v g.memory y (called_is t.now.command v g.memory y call))) h
 backings_between s w x u t can (Touching guest g m step v y at_ same is o f gs vs wr on) view_ fits h =
     free_backs s w x u t view_ (ap holds is) (ap (λ (q : Onward). holds (doing_after q t.actor.doing)) on) o (from_none s w x u t vs) h
-backings_between s w x u t can (RxTurning vhost file q v g hd made files f cis a b way step leaves eq) view_ fits h =
+backings_between s w x u t can (RxTurning vhost file q v g hd made files f over cis a b way step leaves told_ eq) view_ fits h =
     free_backs s w x u t view_ (rx_free x.actor t.actor.doing file q v way)
-    (ap holds (doing_on s w x u t _ eq t.actor.doing) ∙ rx_holds t.actor.seen file made.0.turn f t.actor.doing (rx_turns.rx_over made.0.turn.stage))
-    (ops_on s w x u t _ eq) (from_one s w x u t vhost v _ (on_vhosts s w x u t _ eq) a (queue_files 0 (if is_some (rx_turns.rx_over made.0.turn.stage) then None else Some x.actor) made.0.queue v)) h
-backings_between s w x u t can (TxTurning vhost file q told v g made cis a b way step eq) view_ fits h =
+    (ap holds (doing_on s w x u t _ eq t.actor.doing) ∙ rx_holds t.actor.seen file made.0.turn f t.actor.doing over)
+    (ops_on s w x u t _ eq) (from_one s w x u t vhost v _ (on_vhosts s w x u t _ eq) a (queue_files 0 (if is_some over then None else Some x.actor) made.0.queue v)) h
+backings_between s w x u t can (TxTurning vhost file q told v g made st over cis a b way step end_ eq) view_ fits h =
     free_backs s w x u t view_ (tx_free t.actor.doing file q told v way)
-    (ap holds (doing_on s w x u t _ eq t.actor.doing) ∙ tx_holds t.actor.seen file made.0.turn _ _ t.actor.doing (tx_turns.tx_over made.0.turn.stage))
-    (ops_on s w x u t _ eq) (from_one s w x u t vhost v _ (on_vhosts s w x u t _ eq) a (queue_files 1 (if is_some (tx_turns.tx_over made.0.turn.stage) then None else Some x.actor) made.0.queue v)) h
+    (ap holds (doing_on s w x u t _ eq t.actor.doing) ∙ tx_holds t.actor.seen file made.0.turn _ _ t.actor.doing over)
+    (ops_on s w x u t _ eq) (from_one s w x u t vhost v _ (on_vhosts s w x u t _ eq) a (queue_files 1 (if is_some over then None else Some x.actor) made.0.queue v)) h
 
 pub backings_are_kept : (s : Setup) (w : World) (x : Event) (u : World) (t : IsStep s w x u) → can_be t.actor.doing t.now.command ≡ true
     → Shape s w x.actor t.actor.seen t.actor.doing t.now.command t.effect → EachActor w (WriterIsHeld w) → FitsWorld s w → Backings s w → Backings s u

@@ -17,7 +17,7 @@ use Rattle.tap_steer.specs.Table.{Table, file_at, is_set, new_file}
 use Rattle.tap_steer.specs.Rules.{backer}
 use Rattle.tap_steer.specs.After.{after, attach_queue, attached_file, back, backed, detach_queue, disabled, enabled, resized, standing}
 use Rattle.vhost_dev.specs.Calls as vhost_calls
-use Rattle.vhost_dev.specs.Calls.{with_addr, with_backend, with_base, with_features, with_num, without_backend}
+use Rattle.vhost_dev.specs.Calls.{with_backend, with_features, without_backend}
 use Rattle.vhost_dev.specs.Settings.{RingSettings, Settings, ring_at, with_ring}
 use Rattle.vhost_queue.specs.Queue.{Queue}
 use Rattle.scen_words.specs.declared.command.Command.{Command}

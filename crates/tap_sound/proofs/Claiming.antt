@@ -7,8 +7,6 @@ use Rattle.tap_frame.specs.declared.name.Name.{Name}
 use Rattle.tap_ledger.specs.declared.fate.Cause.{Cause}
 use Rattle.tap_ledger.specs.declared.hand.Hand.TheVariants as hand
 use Rattle.tap_steer.specs.declared.operation.Op.{Op}
-use Rattle.tap_steer.specs.Select.{learns}
-use Rattle.vhost_dev.specs.declared.error.VhostErr.{VhostErr}
 use Rattle.vring_turns.specs.declared.stage.RxStage.{RxStage}
 use Rattle.vring_turns.specs.declared.stage.RxStage.TheVariants as rx
 use Rattle.vring_turns.specs.RxTurn.{RxTurn, rx_step}
@@ -23,9 +21,8 @@ use Rattle.tap_world.specs.declared.event.EventKind.TheVariants as event
 use Rattle.tap_world.specs.declared.event.Found.{Found}
 use Rattle.tap_world.specs.ByNumber.{at}
 use Rattle.tap_world.specs.Frames.{Front}
-use Rattle.vhost_dev.specs.Refusals.{number_refusal}
 use Rattle.vhost_dev.specs.Settings.{ring_at}
-use Rattle.tap_world.specs.Setup.{Setup, op_of}
+use Rattle.tap_world.specs.Setup.{Setup, op_of, frame_of}
 use Rattle.tap_world.specs.Line.{File, claimed, first_that, front_place, in_batch, in_ring, last_that}
 use Rattle.tap_world.specs.LineSteps.{ready_front}
 use Rattle.tap_world.specs.Guests.{Vhost, is_free, is_ring, turn_of}
@@ -34,7 +31,6 @@ use Rattle.tap_steer.specs.Rules.{refuse}
 use Rattle.tap_world.specs.World.{Actor, Doing, World, name_of, newest, table}
 use Rattle.tap_world.specs.World.Doing.{Backed, Backs, Begun, Changes, Disowned, Given, Hosts, Learns, Opened, Opens, Owns, Placed, Purges, Reads, Receives, Released, Resizes, Routed, Shrinks, Teaches, Transmits, Unbacked, Withdrawn, Withdraws}
 use Rattle.tap_world.specs.Effect.{Effect, Onward, only}
-use Rattle.tap_flow_key.specs.FlowKey.{hash}
 use Rattle.tap_steer.specs.declared.operation.Op.TheVariants as op
 use Rattle.tap_trace.specs.declared.answer.Answer.TheVariants as answer
 use Rattle.tap_world.specs.declared.event.Found.TheVariants as found
@@ -47,7 +43,7 @@ use Rattle.tap_world.specs.StepTable as tables
 use Rattle.tap_world.specs.StepTurns as rx_turns
 use Rattle.tap_world.specs.StepTransmits as tx_turns
 use Rattle.tap_sound.proofs.Kit.{WhereSome, either, where_if, where_only, where_then}
-use Rattle.tap_sound.proofs.Steps.{held, or_else, own, owning, publication, turning}
+use Rattle.tap_sound.proofs.Steps.{held, or_else, own, owning, publication, turning, tx_made, rx_missed, rx_stepped, rx_taken, setting, unsetting}
 use Rattle.tap_frame.specs.declared.reading.BadFrame.{BadFrame}
 use Rattle.tap_ledger.specs.declared.error.TapErr.{TapErr}
 use Rattle.tap_steer.specs.declared.selection.Select.{Select}
@@ -58,7 +54,7 @@ use Rattle.tap_world.specs.Frames.{bad_in, ether_in, least_in, sent_bytes, sent_
 use Rattle.tap_world.specs.LineSteps.{changed}
 use Rattle.tap_world.specs.LineSteps.Change.{Claims, Shuts, Takes}
 use Rattle.tap_world.specs.Effect.{OnFiles}
-use Rattle.tap_world.specs.Effect.OnFiles.{NoFile, OnFile}
+use Rattle.tap_world.specs.Effect.OnFiles.{OnFile}
 use Rattle.vring_turns.specs.RxTurn.{rx_begun}
 use Rattle.vring_turns.specs.TxTurn.{tx_begun}
 use Rattle.vhost_dev.specs.Settings.{hdr_of}
@@ -151,7 +147,7 @@ publishes s w me actor d c = own (Claiming w me) s w actor d c (λ x. own_publis
 
 teaches : (w : World) (me : ℕ) (d : Doing) → AllClaim w me (tx_turns.teaches w d)
 teaches w me (Teaches file t told f) = where_only (Claiming w me) (is_none w.writer)
-    (record (only (Goes (newest w + 1) (Transmits file t told) (found.Version (newest w + 1))) w) { ops = op.Learn file (hash f.made) ∷ [] })
+    (record (only (Goes (newest w + 1) (Transmits file t told) (found.Version (newest w + 1))) w) { ops = op.Learn file f.flow ∷ [] })
     (λ b. tt)
 teaches w me d = tt
 
@@ -214,7 +210,7 @@ moves w me d = tt
 
 leaves : (s : Setup) (w : World) (me : ℕ) (seen : ℕ) (d : Doing) → AllClaim w me (ring.leaves s w seen d)
 leaves s w me seen (Reads file room front) = where_then (Claiming w me) (at w.files file) _ (λ f e1. where_then (Claiming w me) (first_that in_batch f.line) _
-    (λ i e2. where_then (Claiming w me) (slice_get f.line i) _ (λ x e3. tt)))
+    (λ i e2. where_then (Claiming w me) (slice_get f.line i) _ (λ x e3. where_then (Claiming w me) (frame_of s x.name x.len) _ (λ y e4. tt))))
 leaves s w me seen (Purges file version) = where_then (Claiming w me) (at w.files file) _
     (λ f e1. where_then (Claiming w me) (ring.name_at f.line (first_that in_batch f.line)) _ (λ x e2. tt))
 leaves s w me seen d = tt
@@ -251,7 +247,7 @@ sets_back : (w : World) (me : ℕ) (actor seen vhost r file : ℕ) (x : Option T
 sets_back w me actor seen vhost r file x v m (Some a) = tt
 sets_back w me actor seen vhost r file x v m None = tt
 
-unsets_back : (w : World) (me : ℕ) (actor seen vhost r : ℕ) (v : Vhost) (m : Contents) (a : Option VhostErr) (file : Option ℕ)
+unsets_back : (w : World) (me : ℕ) (actor seen vhost r : ℕ) (v : Vhost) (m : Contents) (a : Option Answer) (file : Option ℕ)
     → Claiming w me (back.unsets_back w actor seen vhost r v m a file)
 unsets_back w me actor seen vhost r v m (Some a) file = tt
 unsets_back w me actor seen vhost r v m None None = tt
@@ -259,9 +255,9 @@ unsets_back w me actor seen vhost r v m None (Some file) = tt
 
 backs : (s : Setup) (w : World) (me : ℕ) (actor seen : ℕ) (d : Doing) (c : Command) → AllClaim w me (back.backs s w actor seen d c)
 backs s w me actor seen (Backs x) (command.Backend vhost r None) = where_then (Claiming w me) (at w.vhosts vhost) _ (λ v e1. where_then (Claiming w me) (at w.guests v.guest) _
-    (λ g e2. where_only (Claiming w me) _ _ (λ y. unsets_back w me actor seen vhost r v g.memory (number_refusal r) (ring_at r v.settings).file)))
+    (λ g e2. unsetting (Claiming w me) s w actor seen x vhost r v g.memory (λ told e3. unsets_back w me actor seen vhost r v g.memory told (ring_at r v.settings).file)))
 backs s w me actor seen (Backs x) (command.Backend vhost r (Some file)) = where_then (Claiming w me) (at w.vhosts vhost) _ (λ v e1. where_then (Claiming w me) (at w.guests v.guest) _
-    (λ g e2. where_only (Claiming w me) _ (back.sets_back w actor seen vhost r file x v g.memory _) (λ y. sets_back w me actor seen vhost r file x v g.memory _)))
+    (λ g e2. setting (Claiming w me) s w actor seen x vhost r file v g.memory (λ told e3. sets_back w me actor seen vhost r file x v g.memory told)))
 backs s w me actor seen d c = tt
 
 drive_row : (s : Setup) (w : World) (me : ℕ) (actor seen : ℕ) (d : Doing) (c : Command) → AllClaim w me (rows.drive_row s w actor seen d c)
@@ -289,11 +285,12 @@ rx_change w me vhost file t st o = tt
 
 rx_steps_on : (w : World) (me actor seen vhost file : ℕ) (t : RxTurn) (v : Vhost) (m : Contents) → AllClaim w me (rx_turns.rx_steps_on w actor seen vhost file t v m)
 rx_steps_on w me actor seen vhost file t v m = where_then (Claiming w me) (rx_step hand.Off (rx_turns.rx_state t v m)) _
-    (λ made e. rx_change w me vhost file t t.stage _)
+    (λ made e. rx_stepped (Claiming w me) w actor seen vhost file t v made (λ f over e2 told. rx_change w me vhost file t t.stage _))
 
 tx_steps_on : (w : World) (me actor seen vhost file : ℕ) (t : TxTurn) (told : List ChainText) (v : Vhost) (m : Contents)
     → AllClaim w me (tx_turns.tx_steps_on w actor seen vhost file t told v m)
-tx_steps_on w me actor seen vhost file t told v m = where_then (Claiming w me) (tx_step (tx_turns.tx_state t v m)) _ (λ made x. tt)
+tx_steps_on w me actor seen vhost file t told v m = where_then (Claiming w me) (tx_step (tx_turns.tx_state t v m)) _
+    (λ made x. tx_made (Claiming w me) w actor seen vhost file told v made (λ step over e2 end_. tt))
 
 begins : (w : World) (me actor n seen : ℕ) (c : Command) → AllClaim w me (tx_turns.turn_begins w actor n seen c)
 begins w me actor n seen c = where_then (Claiming w me) (rx_turns.turn_on c) _ (λ t e1. where_then (Claiming w me) (at w.vhosts t.0) _ (λ v e2. where_then (Claiming w me) (at w.guests v.guest) _
@@ -315,13 +312,14 @@ turns w me actor n seen d c = turning (Claiming w me) w c (tx_turns.goes_on w ac
 hands : (s : Setup) (w : World) (me actor seen : ℕ) (d : Doing) (c : Command) → AllClaim w me (tx_turns.hands s w actor seen d c)
 hands s w me actor seen (Receives file t) c = turning (Claiming w me) w c _ (λ vhost v m. where_then (Claiming w me) (at w.files file) _
     (λ f e1. where_then (Claiming w me) (changed (Takes vhost) f) _ (λ g e2. where_then (Claiming w me) (rx_turns.front_frame s g) _
-    (λ frame e3. where_then (Claiming w me) (rx_step (hand.Got frame) (rx_turns.rx_state t v m)) _ (λ made e. tt)))))
+    (λ frame e3. where_then (Claiming w me) (rx_step (hand.Got frame) (rx_turns.rx_state t v m)) _
+    (λ made e. rx_taken (Claiming w me) w actor seen vhost file v frame made (λ over told. tt))))))
 hands s w me actor seen d c = tt
 
 finds_nothing : (w : World) (me actor seen : ℕ) (d : Doing) (c : Command) → AllClaim w me (tx_turns.turn_finds_none w actor seen d c)
 finds_nothing w me actor seen (Receives file t) c = turning (Claiming w me) w c _ (λ vhost v m. where_then (Claiming w me) (at w.files file) _
     (λ f e1. where_then (Claiming w me) (rx_step (hand.NotReady (front_place f)) (rx_turns.rx_state t v m)) _
-    (λ made e. where_only (Claiming w me) _ (rx_turns.rx_event w actor seen vhost file v NoFile (found.NotReady (front_place f)) made) (λ x. tt))))
+    (λ made e. rx_missed (Claiming w me) w actor seen vhost file v f made (λ over told. tt))))
 finds_nothing w me actor seen d c = tt
 
 gives : (w : World) (me seen : ℕ) (d : Doing) (c : Command) → AllClaim w me (tx_turns.hosts_of_turn w seen d c)

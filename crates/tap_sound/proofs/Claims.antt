@@ -25,7 +25,8 @@ use Rattle.tap_world.specs.Effect.OnFiles.{NoFile, OnFile}
 use Rattle.tap_world.specs.Scripts.{is_kind, next_kind}
 use Rattle.tap_world.specs.Step.{row, step}
 use Rattle.tap_world.specs.StepRing as ring
-use Rattle.tap_world.specs.Sound.{ClaimIsHeld, EachFile}
+use Rattle.tap_world.specs.Each.{EachFile}
+use Rattle.tap_world.specs.Sound.{ClaimIsHeld}
 use Rattle.tap_sound.proofs.Kit.{only_some, some_same, then_some, where_some}
 use Rattle.tap_sound.proofs.Entries.{filled_keeps}
 use Rattle.tap_sound.proofs.Follows.{same_kind}

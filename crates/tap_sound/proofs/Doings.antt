@@ -1,5 +1,4 @@
 -- Each event that is allowed is one that is left to its command.
-use Rattle.tap_sound.proofs.TurnEvents.{unset_where, set_where}
 use Rattle.std.proofs.Common.{◌≡◌, ℕ, suc, ◌+◌, List, [], ◌∷◌, Bool, true, false, Option, Some, None, inl, inr, refl, sym, ap, subst}
 use Rattle.std.specs.Prelude.{if◌then◌else◌, ◌==◌, ◌||◌, is_none, is_some, slice_get}
 use Rattle.guest_mem.specs.Memory.{Contents}
@@ -21,7 +20,6 @@ use Rattle.tap_world.specs.ByNumber.{at}
 use Rattle.tap_world.specs.Grammar.{HasForm, Perhaps}
 use Rattle.tap_world.specs.Grammar.Grammar.{Nothing, One, ◌⨾◌}
 use Rattle.tap_world.specs.Frames.{Front}
-use Rattle.vhost_dev.specs.Refusals.{number_refusal}
 use Rattle.vhost_dev.specs.Settings.{ring_at}
 use Rattle.std.proofs.Common.{true≢false}
 use Rattle.tap_world.specs.Setup.{Numbered, Setup, frame_of}
@@ -41,10 +39,10 @@ use Rattle.tap_world.specs.StepBackend as back
 use Rattle.tap_world.specs.StepRing as ring
 use Rattle.tap_world.specs.StepTable as tables
 use Rattle.tap_world.specs.StepTransmits as tx_turns
-use Rattle.tap_sound.proofs.Kit.{either, where_only, where_then, where_if}
+use Rattle.tap_sound.proofs.Kit.{either, where_only, where_then}
 use Rattle.tap_sound.proofs.Left.{left_of}
 use Rattle.tap_sound.proofs.Rows.{rx_kind, tx_kind}
-use Rattle.tap_sound.proofs.Steps.{Gives, give_follows, hand_follows, held, none_follows, or_else, own, owning, publication, rx_follows, turning, tx_follows}
+use Rattle.tap_sound.proofs.Steps.{Gives, give_follows, hand_follows, held, none_follows, or_else, own, owning, publication, rx_follows, turning, tx_follows, setting, unsetting}
 use Rattle.tap_sound.proofs.Firsts.{RowFollows, begun_follows, given_follows}
 use Rattle.tap_sound.proofs.Follows.{AllFollow, Follows, Onto, at_file_kind, at_kind}
 
@@ -70,12 +68,12 @@ backs_follow : (s : Setup) (w : World) (actor seen : ℕ) (x : Option TapText) (
     → AllFollow (Backs x) c event.Drive (back.backs s w actor seen (Backs x) c)
 backs_follow s w actor seen x (command.Backend vhost r None) =
     let P : Effect → Type 0 = Follows (Backs x) (command.Backend vhost r None) event.Drive in
-    where_then P (at w.vhosts vhost) _ (λ v e1. where_then P (at w.guests v.guest) _ (λ g e2. where_if P _ _
-    (λ b. unset_where P s w actor seen x vhost r v g.memory (λ told e. unsets w actor seen vhost r x v g.memory told (ring_at r v.settings).file))))
+    where_then P (at w.vhosts vhost) _ (λ v e1. where_then P (at w.guests v.guest) _ (λ g e2. unsetting P s w actor seen x vhost r v g.memory
+    (λ told e3. unsets w actor seen vhost r x v g.memory told (ring_at r v.settings).file)))
 backs_follow s w actor seen x (command.Backend vhost r (Some file)) =
     let P : Effect → Type 0 = Follows (Backs x) (command.Backend vhost r (Some file)) event.Drive in
-    where_then P (at w.vhosts vhost) _ (λ v e1. where_then P (at w.guests v.guest) _ (λ g e2. where_only P _ _
-    (λ b. sets w actor seen vhost r file x v g.memory _)))
+    where_then P (at w.vhosts vhost) _ (λ v e1. where_then P (at w.guests v.guest) _ (λ g e2. setting P s w actor seen x vhost r file v g.memory
+    (λ told e3. sets w actor seen vhost r file x v g.memory told)))
 backs_follow s w actor seen x c = tt
 
 backed_follows : (w : World) (file : ℕ) (c : Command) → AllFollow (Backed file) c event.Publish (back.publishes_back w (Backed file) c)

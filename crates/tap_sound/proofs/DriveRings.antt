@@ -5,10 +5,11 @@ use Rattle.tap_world.specs.World.{Actor, Doing, World, table}
 use Rattle.tap_world.specs.Setup.{Setup}
 use Rattle.guest_mem.specs.Memory.{Contents}
 use Rattle.vhost_queue.specs.Positions.{IsIdle}
-use Rattle.tap_sound.proofs.Kit.{either, some_same}
+use Rattle.tap_sound.proofs.Kit.{either, some_same, then_some}
 use Rattle.tap_world.specs.Effect.OnVhosts.{OnVhost}
 use Rattle.tap_world.specs.Effect.{Effect}
-use Rattle.tap_world.specs.SoundRings.{Serves, TurnsAreHeld, serves}
+use Rattle.tap_world.specs.Each.{EachActor, EachVhost}
+use Rattle.tap_world.specs.SoundRings.{HaveRings, Serves, TurnsAreHeld, serves}
 use Rattle.tap_world.specs.Guests.{Guest, Vhost, turn_of, is_ring, with_turn, is_free_for}
 use Rattle.std.specs.Option.{option_map_or}
 use Rattle.vhost_dev.specs.Settings.{RingSettings, Settings, ring_at, with_ring}
@@ -17,9 +18,7 @@ use Rattle.tap_trace.specs.declared.kind.Kind.{Kind}
 use Rattle.tap_world.specs.declared.event.Event.{Event}
 use Rattle.tap_world.specs.ByNumber.{at}
 use Rattle.tap_world.specs.Effect.OnGuests.{NoGuest, OnGuest}
-use Rattle.tap_world.specs.Sound.{EachVhost, EachActor}
 use Rattle.tap_world.specs.SoundActors.{CanBe}
-use Rattle.tap_sound.specs.Served.{HaveRings}
 use Rattle.tap_sound.proofs.ServedOn.{OldGuests, A}
 use Rattle.tap_sound.proofs.Taken.{IsStep, both}
 use Rattle.tap_sound.proofs.Turns.{two_rings, is_below}
@@ -29,7 +28,6 @@ use Rattle.tap_sound.proofs.RingsKept.{a_guest, vhosts_on, same_guests}
 use Rattle.tap_sound.proofs.ServedMoved.{RingMove, rings_moved, served_moved}
 use Rattle.tap_sound.proofs.ServedMoved.Outcome.{Rest}
 use Rattle.tap_sound.proofs.ServedMoved.RingMove.{Redone, Still}
-use Rattle.vhost_dev.specs.declared.error.VhostErr.{VhostErr}
 use Rattle.vhost_dev.specs.Laws.Call.{SetAddr, SetBackend, SetBase, SetFeatures, SetNum, UnsetBackend}
 use Rattle.vhost_dev.specs.Refusals.{number_refusal, ready_refusal}
 use Rattle.std.proofs.lemmas.Bool.Decides.{eqb_tells}
@@ -45,6 +43,7 @@ use Rattle.tap_world.specs.StepBackend as back_steps
 use Rattle.vhost_dev.specs.Calls as dev
 use Rattle.tap_steer.specs.Select as steer
 use Rattle.tap_world.specs.StepControl as control
+use Rattle.tap_sound.proofs.Steps.{not_refused}
 
 holder_of : (me ring : ℕ) (v : Vhost) → is_free_for me ring v ≡ true → is_ring ring ≡ true → (turn_of ring v ≡ None) ⊎ (turn_of ring v ≡ Some me)
 holder_of me ring v free there = go (turn_of ring v) refl (ap (λ (b : Bool). not b || option_map_or (λ a. a == me) (turn_of ring v) true) (sym there) ∙ free)
@@ -138,7 +137,7 @@ module _ (s : Setup) (w : World) (x : Event) (u : World) (t : IsStep s w x u) wh
       kept_by vhost v v can found vh (step_guests v.guest g.memory g k got refl gs) refl before after (still_moves vhost v v refl before after) (λ y is both. both) h
 
   -- it is unset
-  unsets_kept : DevLaws → (vhost ring : ℕ) (v : Vhost) (g : Guest) (a : Option VhostErr) (o : Option ℕ) → a ≡ number_refusal ring → EachActor w (λ actor a. CanBe a) → EachVhost w (TurnsAreHeld w)
+  unsets_kept : DevLaws → (vhost ring : ℕ) (v : Vhost) (g : Guest) (a : Option Answer) (o : Option ℕ) → (a ≡ None → number_refusal ring ≡ None) → EachActor w (λ actor a. CanBe a) → EachVhost w (TurnsAreHeld w)
       → at w.vhosts vhost ≡ Some v → at w.guests v.guest ≡ Some g → is_free_for x.actor ring v ≡ true → serves t.actor.doing ≡ false
       → back_steps.unsets_back w x.actor t.actor.seen vhost ring v g.memory a o ≡ t.effect → HaveRings w → HaveRings t.between
   unsets_kept laws vhost ring v g (Some e) o no_ can turns found got free before eq h =
@@ -146,11 +145,11 @@ module _ (s : Setup) (w : World) (x : Event) (u : World) (t : IsStep s w x u) wh
   unsets_kept laws vhost ring v g None None no_ can turns found got free before eq h =
       back_ended vhost ring (is_ring ring && true) v g (Some (kind.Backend vhost ring false)) can found got (vhosts_of _ eq) (guests_of _ eq) before (serves_on _ eq refl) h
   unsets_kept laws vhost ring v g None (Some file) no_ can turns found got free before eq h =
-      let there = ring_there ring (first_passed _ _ _ (sym no_)) in
+      let there = ring_there ring (first_passed _ _ _ (no_ refl)) in
       let after = serves_on _ eq (either (λ (q : Doing). serves q ≡ false) (ring == 0) (Unbacked file) (Released file) refl refl) in
       kept_by vhost v (record v { settings = dev.without_backend ring v.settings }) can found (vhosts_of _ eq) (a_guest s w x u t v.guest g.memory _ g (guests_of _ eq) got refl) refl before after
       (ring_moves vhost ring v _ (dev.unbacked (ring_at ring v.settings)) (turns vhost v found) refl (is_below ring there) (holder_of x.actor ring v free there) before after (λ k. k))
-      (λ y is both. call_keeps laws y v.settings (dev.without_backend ring v.settings) (UnsetBackend ring) tt (sym no_) refl both) h
+      (λ y is both. call_keeps laws y v.settings (dev.without_backend ring v.settings) (UnsetBackend ring) tt (no_ refl) refl both) h
 
   -- it is set
   sets_kept : DevLaws → (vhost ring file : ℕ) (refusal : Option TapText) (v : Vhost) (g : Guest) (a : Option Answer) → (a ≡ None → ready_refusal ring g.memory v.settings ≡ None)
@@ -170,12 +169,14 @@ module _ (s : Setup) (w : World) (x : Event) (u : World) (t : IsStep s w x u) wh
 
   pub back_kept : DevLaws → (refusal : Option TapText) (vhost ring : ℕ) (file : Option ℕ) (v : Vhost) (g : Guest) → EachActor w (λ actor a. CanBe a) → EachVhost w (TurnsAreHeld w)
       → at w.vhosts vhost ≡ Some v → at w.guests v.guest ≡ Some g → is_free_for x.actor ring v ≡ true → serves t.actor.doing ≡ false
-      → back_steps.back_call s w x.actor t.actor.seen refusal vhost ring file v g.memory ≡ t.effect → HaveRings w → HaveRings t.between
+      → back_steps.back_call s w x.actor t.actor.seen refusal vhost ring file v g.memory ≡ Some t.effect → HaveRings w → HaveRings t.between
   back_kept laws refusal vhost ring None v g can turns found got free before eq h =
-      unsets_kept laws vhost ring v g (number_refusal ring) (ring_at ring v.settings).file refl can turns found got free before eq h
+      let b = then_some (back_steps.refused_by (number_refusal ring)) _ t.effect eq in
+      unsets_kept laws vhost ring v g b.0 (ring_at ring v.settings).file (λ e. not_refused _ (b.1 ∙ ap (λ (o : Option Answer). Some o) e)) can turns found got free before (some_same _ t.effect b.2) h
   back_kept laws refusal vhost ring (Some file) v g can turns found got free before eq h =
-      sets_kept laws vhost ring file refusal v g (back_steps.back_answer (ready_refusal ring g.memory v.settings) refusal (back_steps.unfit_for (steer.shape_of (table s w) file) v.settings))
-      (λ e. (answered _ _ _ e).0) can turns found got free before eq h
+      let b = then_some (back_steps.back_answer (ready_refusal ring g.memory v.settings) refusal (back_steps.unfit_for (steer.shape_of (table s w) file) v.settings)) _ t.effect eq in
+      sets_kept laws vhost ring file refusal v g b.0
+      (λ e. (answered _ _ _ (b.1 ∙ ap (λ (o : Option Answer). Some o) e)).0) can turns found got free before (some_same _ t.effect b.2) h
 
   -- a call
   nobody_serves : (vhost ring : ℕ) (v : Vhost) → TurnsAreHeld w vhost v → ring < 2 → (turn_of ring v ≡ None) ⊎ (turn_of ring v ≡ Some x.actor) → serves t.actor.doing ≡ false

@@ -8,10 +8,9 @@ use Rattle.tap_world.specs.Effect.{Effect}
 use Rattle.tap_world.specs.Step.{step}
 use Rattle.tap_world.specs.StepTurns as rx_turns
 use Rattle.tap_world.specs.StepTransmits as tx_turns
-use Rattle.tap_world.specs.Sound.{EachActor, EachVhost}
+use Rattle.tap_world.specs.Each.{EachActor, EachVhost}
 use Rattle.tap_world.specs.SoundActors.{CanBe}
-use Rattle.tap_world.specs.SoundRings.{TurnsAreHeld, serves}
-use Rattle.tap_sound.specs.Served.{HaveRings}
+use Rattle.tap_world.specs.SoundRings.{HaveRings, TurnsAreHeld, serves}
 use Rattle.tap_sound.proofs.DriveRings.{back_kept, call_kept}
 use Rattle.tap_sound.proofs.Held.{shape_here}
 use Rattle.tap_sound.proofs.Kit.{where_some}
@@ -22,6 +21,7 @@ use Rattle.tap_sound.proofs.Shapes.Shape.{BackDrives, Calling, RxTurning, TxTurn
 use Rattle.tap_sound.proofs.StepFacts.{RxDoes, TxDoes, rx_does, tx_does}
 use Rattle.tap_sound.proofs.Taken.{IsStep, step_is, when_settled}
 use Rattle.tap_sound.proofs.TurnRings.{RingLaws, rx_kept, tx_kept}
+use Rattle.tap_world.specs.declared.event.Found.TheVariants as found
 
 as_left : (s : Setup) (w : World) (x : Event) (u : World) (t : IsStep s w x u) → Left s w x u t → HaveRings w → HaveRings t.between
 as_left s w x u t l h = record {
@@ -31,14 +31,14 @@ as_left s w x u t l h = record {
 
 between : RingLaws → (s : Setup) (w : World) (x : Event) (u : World) (t : IsStep s w x u) → EachActor w (λ actor a. CanBe a) → EachVhost w (TurnsAreHeld w)
     → Shape s w x.actor t.actor.seen t.actor.doing t.now.command t.effect → HaveRings w → HaveRings t.between
-between laws s w x u t can turns (RxTurning vhost file q v g hd made files f cis a b way step lv eq) h =
+between laws s w x u t can turns (RxTurning vhost file q v g hd made files f over cis a b way step lv told_ eq) h =
     let does = where_some (RxDoes (rx_turns.rx_state q v g.memory)) _ made (rx_does hd (rx_turns.rx_state q v g.memory)) step in
-    rx_kept s w x u t laws can turns h vhost file q v g hd made f cis a b way step (ap (λ (r : Effect). r.onward) eq) (ap (λ (r : Effect). r.vhosts) (sym eq))
+    rx_kept s w x u t laws can turns h vhost file q v g hd made f over cis a b way step told_ (ap (λ (r : Effect). r.onward) eq) (ap (λ (r : Effect). r.vhosts) (sym eq))
     (a_guest s w x u t v.guest made.0.memory _ g (ap (λ (r : Effect). r.guests) (sym eq)) b does.2)
-between laws s w x u t can turns (TxTurning vhost file q told v g made cis a b way step eq) h =
+between laws s w x u t can turns (TxTurning vhost file q told v g made st over cis a b way step end_ eq) h =
     let does = where_some (TxDoes (tx_turns.tx_state q v g.memory)) _ made (tx_does (tx_turns.tx_state q v g.memory)) step in
     tx_kept s w x u t laws can turns h vhost file q told (tx_turns.chains_after made.1 made.0.turn.held told) v g made
-    (rx_turns.found_by (rx_turns.kind_of vhost 1 made.1) (rx_turns.held_name made.0.turn.held)) cis a b way step (ap (λ (r : Effect). r.onward) eq)
+    (found.Step st) over cis a b way step end_ (ap (λ (r : Effect). r.onward) eq)
     (ap (λ (r : Effect). r.vhosts) (sym eq)) (a_guest s w x u t v.guest made.0.memory _ g (ap (λ (r : Effect). r.guests) (sym eq)) b does.2)
 between laws s w x u t can turns (BackDrives refusal vhost ring file v g is cis a b free eq) h =
     back_kept s w x u t laws.dev refusal vhost ring file v g can turns a b free (ap serves is) eq h

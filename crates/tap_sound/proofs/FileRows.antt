@@ -7,8 +7,6 @@ use Rattle.tap_frame.specs.declared.name.Name.{Name}
 use Rattle.tap_ledger.specs.declared.fate.Cause.{Cause}
 use Rattle.tap_ledger.specs.declared.hand.Hand.TheVariants as hand
 use Rattle.tap_steer.specs.declared.operation.Op.{Op}
-use Rattle.tap_steer.specs.Select.{learns}
-use Rattle.vhost_dev.specs.declared.error.VhostErr.{VhostErr}
 use Rattle.vring_turns.specs.declared.stage.RxStage.{RxStage}
 use Rattle.vring_turns.specs.declared.stage.RxStage.TheVariants as rx
 use Rattle.vring_turns.specs.RxTurn.{RxTurn, rx_step}
@@ -22,9 +20,8 @@ use Rattle.tap_world.specs.declared.event.EventKind.{EventKind}
 use Rattle.tap_world.specs.declared.event.EventKind.TheVariants as event
 use Rattle.tap_world.specs.ByNumber.{at}
 use Rattle.tap_world.specs.Frames.{Front}
-use Rattle.vhost_dev.specs.Refusals.{number_refusal}
 use Rattle.vhost_dev.specs.Settings.{ring_at}
-use Rattle.tap_world.specs.Setup.{Setup, op_of}
+use Rattle.tap_world.specs.Setup.{Setup, op_of, frame_of}
 use Rattle.tap_world.specs.Line.{File, first_that, front_place, in_batch, in_ring, last_that}
 use Rattle.tap_world.specs.LineSteps.{ready_front}
 use Rattle.tap_world.specs.Guests.{Vhost, is_free, is_ring, turn_of}
@@ -33,7 +30,6 @@ use Rattle.tap_steer.specs.Rules.{refuse}
 use Rattle.tap_world.specs.World.{Actor, Doing, World, name_of, newest, table}
 use Rattle.tap_world.specs.World.Doing.{Backed, Backs, Begun, Changes, Disowned, Given, Hosts, Learns, Opened, Opens, Owns, Placed, Purges, Reads, Receives, Released, Resizes, Routed, Shrinks, Teaches, Transmits, Unbacked, Withdrawn, Withdraws}
 use Rattle.tap_world.specs.Effect.{Effect, only}
-use Rattle.tap_flow_key.specs.FlowKey.{hash}
 use Rattle.tap_steer.specs.declared.operation.Op.TheVariants as op
 use Rattle.tap_trace.specs.declared.answer.Answer.TheVariants as answer
 use Rattle.tap_world.specs.declared.event.Found.TheVariants as found
@@ -46,7 +42,7 @@ use Rattle.tap_world.specs.StepTable as tables
 use Rattle.tap_world.specs.StepTurns as rx_turns
 use Rattle.tap_world.specs.StepTransmits as tx_turns
 use Rattle.tap_sound.proofs.Kit.{WhereSome, either, where_if, where_only, where_then}
-use Rattle.tap_sound.proofs.Steps.{held, or_else, own, owning, publication, turning}
+use Rattle.tap_sound.proofs.Steps.{held, or_else, own, owning, publication, turning, tx_made, rx_missed, rx_stepped, rx_taken, setting, unsetting}
 use Rattle.tap_frame.specs.declared.reading.BadFrame.{BadFrame}
 use Rattle.tap_ledger.specs.declared.error.TapErr.{TapErr}
 use Rattle.tap_steer.specs.declared.selection.Select.{Select}
@@ -57,7 +53,7 @@ use Rattle.tap_world.specs.Frames.{bad_in, ether_in, least_in, sent_bytes, sent_
 use Rattle.tap_world.specs.LineSteps.{changed}
 use Rattle.tap_world.specs.LineSteps.Change.{Claims, Cuts, Moves, Owned, Puts, Reopens, Shuts, Sizes, Takes}
 use Rattle.tap_world.specs.Effect.{OnFiles}
-use Rattle.tap_world.specs.Effect.OnFiles.{NoFile, OnFile}
+use Rattle.tap_world.specs.Effect.OnFiles.{OnFile}
 use Rattle.vring_turns.specs.RxTurn.{rx_begun}
 use Rattle.vring_turns.specs.TxTurn.{tx_begun}
 use Rattle.vhost_dev.specs.Settings.{hdr_of}
@@ -156,7 +152,7 @@ publishes s w k actor d c = own (Makes k) s w actor d c (λ x. own_published w k
 
 teaches : (w : World) (k : EventKind) (d : Doing) → AllMake k (tx_turns.teaches w d)
 teaches w k (Teaches file t told f) = where_only (Makes k) (is_none w.writer)
-    (record (only (Goes (newest w + 1) (Transmits file t told) (found.Version (newest w + 1))) w) { ops = op.Learn file (hash f.made) ∷ [] })
+    (record (only (Goes (newest w + 1) (Transmits file t told) (found.Version (newest w + 1))) w) { ops = op.Learn file f.flow ∷ [] })
     (λ b. tt)
 teaches w k d = tt
 
@@ -219,7 +215,7 @@ moves w d = tt
 
 leaves : (s : Setup) (w : World) (k : EventKind) (seen : ℕ) (d : Doing) → AllMake k (ring.leaves s w seen d)
 leaves s w k seen (Reads file room front) = where_then (Makes k) (at w.files file) _ (λ f e1. where_then (Makes k) (first_that in_batch f.line) _
-    (λ i e2. where_then (Makes k) (slice_get f.line i) _ (λ x e3. tt)))
+    (λ i e2. where_then (Makes k) (slice_get f.line i) _ (λ x e3. where_then (Makes k) (frame_of s x.name x.len) _ (λ y e4. tt))))
 leaves s w k seen (Purges file version) = where_then (Makes k) (at w.files file) _
     (λ f e1. where_then (Makes k) (ring.name_at f.line (first_that in_batch f.line)) _ (λ x e2. tt))
 leaves s w k seen d = tt
@@ -256,7 +252,7 @@ sets_back : (w : World) (k : EventKind) (actor seen vhost r file : ℕ) (x : Opt
 sets_back w k actor seen vhost r file x v m (Some a) = tt
 sets_back w k actor seen vhost r file x v m None = tt
 
-unsets_back : (w : World) (k : EventKind) (actor seen vhost r : ℕ) (v : Vhost) (m : Contents) (a : Option VhostErr) (file : Option ℕ)
+unsets_back : (w : World) (k : EventKind) (actor seen vhost r : ℕ) (v : Vhost) (m : Contents) (a : Option Answer) (file : Option ℕ)
     → Makes k (back.unsets_back w actor seen vhost r v m a file)
 unsets_back w k actor seen vhost r v m (Some a) file = tt
 unsets_back w k actor seen vhost r v m None None = tt
@@ -264,9 +260,9 @@ unsets_back w k actor seen vhost r v m None (Some file) = tt
 
 backs : (s : Setup) (w : World) (k : EventKind) (actor seen : ℕ) (d : Doing) (c : Command) → AllMake k (back.backs s w actor seen d c)
 backs s w k actor seen (Backs x) (command.Backend vhost r None) = where_then (Makes k) (at w.vhosts vhost) _ (λ v e1. where_then (Makes k) (at w.guests v.guest) _
-    (λ g e2. where_only (Makes k) _ _ (λ y. unsets_back w k actor seen vhost r v g.memory (number_refusal r) (ring_at r v.settings).file)))
+    (λ g e2. unsetting (Makes k) s w actor seen x vhost r v g.memory (λ told e3. unsets_back w k actor seen vhost r v g.memory told (ring_at r v.settings).file)))
 backs s w k actor seen (Backs x) (command.Backend vhost r (Some file)) = where_then (Makes k) (at w.vhosts vhost) _ (λ v e1. where_then (Makes k) (at w.guests v.guest) _
-    (λ g e2. where_only (Makes k) _ (back.sets_back w actor seen vhost r file x v g.memory _) (λ y. sets_back w k actor seen vhost r file x v g.memory _)))
+    (λ g e2. setting (Makes k) s w actor seen x vhost r file v g.memory (λ told e3. sets_back w k actor seen vhost r file x v g.memory told)))
 backs s w k actor seen d c = tt
 
 drive_row : (s : Setup) (w : World) (k : EventKind) (actor seen : ℕ) (d : Doing) (c : Command) → AllMake k (rows.drive_row s w actor seen d c)
@@ -294,11 +290,12 @@ rx_change w k vhost file t st = tt
 
 rx_steps_on : (w : World) (k : EventKind) (actor seen vhost file : ℕ) (t : RxTurn) (v : Vhost) (m : Contents) → AllMake k (rx_turns.rx_steps_on w actor seen vhost file t v m)
 rx_steps_on w k actor seen vhost file t v m = where_then (Makes k) (rx_step hand.Off (rx_turns.rx_state t v m)) _
-    (λ made e. rx_change w k vhost file t t.stage)
+    (λ made e. rx_stepped (Makes k) w actor seen vhost file t v made (λ f over e2 told. rx_change w k vhost file t t.stage))
 
 tx_steps_on : (w : World) (k : EventKind) (actor seen vhost file : ℕ) (t : TxTurn) (told : List ChainText) (v : Vhost) (m : Contents)
     → AllMake k (tx_turns.tx_steps_on w actor seen vhost file t told v m)
-tx_steps_on w k actor seen vhost file t told v m = where_then (Makes k) (tx_step (tx_turns.tx_state t v m)) _ (λ made x. tt)
+tx_steps_on w k actor seen vhost file t told v m = where_then (Makes k) (tx_step (tx_turns.tx_state t v m)) _
+    (λ made x. tx_made (Makes k) w actor seen vhost file told v made (λ step over e2 end_. tt))
 
 begins : (w : World) (k : EventKind) (actor n seen : ℕ) (c : Command) → AllMake k (tx_turns.turn_begins w actor n seen c)
 begins w k actor n seen c = where_then (Makes k) (rx_turns.turn_on c) _ (λ t e1. where_then (Makes k) (at w.vhosts t.0) _ (λ v e2. where_then (Makes k) (at w.guests v.guest) _
@@ -320,13 +317,14 @@ turns w k actor n seen d c = turning (Makes k) w c (tx_turns.goes_on w actor see
 hands : (s : Setup) (w : World) (actor seen : ℕ) (d : Doing) (c : Command) → AllMake event.Hand (tx_turns.hands s w actor seen d c)
 hands s w actor seen (Receives file t) c = turning (Makes event.Hand) w c _ (λ vhost v m. where_then (Makes event.Hand) (at w.files file) _
     (λ f e1. where_then (Makes event.Hand) (changed (Takes vhost) f) _ (λ g e2. where_then (Makes event.Hand) (rx_turns.front_frame s g) _
-    (λ frame e3. where_then (Makes event.Hand) (rx_step (hand.Got frame) (rx_turns.rx_state t v m)) _ (λ made e. refl)))))
+    (λ frame e3. where_then (Makes event.Hand) (rx_step (hand.Got frame) (rx_turns.rx_state t v m)) _
+    (λ made e. rx_taken (Makes event.Hand) w actor seen vhost file v frame made (λ over told. refl))))))
 hands s w actor seen d c = tt
 
 finds_nothing : (w : World) (k : EventKind) (actor seen : ℕ) (d : Doing) (c : Command) → AllMake k (tx_turns.turn_finds_none w actor seen d c)
 finds_nothing w k actor seen (Receives file t) c = turning (Makes k) w c _ (λ vhost v m. where_then (Makes k) (at w.files file) _
     (λ f e1. where_then (Makes k) (rx_step (hand.NotReady (front_place f)) (rx_turns.rx_state t v m)) _
-    (λ made e. where_only (Makes k) _ (rx_turns.rx_event w actor seen vhost file v NoFile (found.NotReady (front_place f)) made) (λ x. tt))))
+    (λ made e. rx_missed (Makes k) w actor seen vhost file v f made (λ over told. tt))))
 finds_nothing w k actor seen d c = tt
 
 gives : (w : World) (k : EventKind) (seen : ℕ) (d : Doing) (c : Command) → AllMake k (tx_turns.hosts_of_turn w seen d c)

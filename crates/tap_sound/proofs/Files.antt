@@ -13,8 +13,7 @@ use Rattle.tap_world.specs.Line.{File, claimed, count, first_that, freed, has_ba
 use Rattle.tap_world.specs.declared.line.Standing.TheVariants.{Batched, Claimed, Cut, Out, Ready}
 use Rattle.tap_world.specs.LineSteps.{Change, changed, filled, is_claim_of, may_leave, moves_to, ready_front, restand}
 use Rattle.tap_world.specs.LineSteps.Change.{Claims, Cuts, Leaves, Moves, Owned, Puts, PutsBack, Reopens, Shuts, Sizes, Takes}
-use Rattle.tap_world.specs.Sound.{HasEpochs, HasRoom, InThreeParts, NeverFall, has_left}
-use Rattle.tap_sound.specs.Kept.{IsOrdered}
+use Rattle.tap_world.specs.Sound.{HasEpochs, HasRoom, InThreeParts, IsOrdered, NeverFall, has_left}
 use Rattle.tap_sound.proofs.Kit.{only_some, some_same, then_some}
 use Rattle.tap_world.specs.Effect.OnFiles.{OnFile}
 use Rattle.tap_sound.proofs.Tame.{HasGoodFate, KeepsSize}
@@ -289,12 +288,9 @@ IsFair (Shifts i s hand how room is) = has_left s ≡ true
 IsFair (Resizes capacity is) = ⊥
 IsFair other = Unit {0}
 
-ordered_of : (before : ℕ) (f : File) → HasRoom before f → IsOrdered f
-ordered_of before f h = record { parts = h.parts; batch = h.batch; places = h.places }
-
 with_ring : (before : ℕ) (f : File) → IsOrdered f → AllByRecursion (λ (e : Entry). has_left e.stands ≡ true) f.line
     → claimed f ≤ freed f + max f.capacity before → HasRoom before f
-with_ring before f o fates ring = record { parts = o.parts; fates = fates; batch = o.batch; ring = ring; places = o.places }
+with_ring before f o fates ring = record { ordered = o; fates = fates; ring = ring }
 
 not_full : (f : File) → is_full f ≡ false → claimed f < freed f + f.capacity
 not_full f e = ⊎_elim (λ t. absurd (true≢false (sym t.0 ∙ e))) (λ t. t.1) (leb_tells (freed f + f.capacity) (claimed f))
@@ -309,31 +305,32 @@ pub course_room : (before : ℕ) (f g : File) (c : Course f g) → IsFair c → 
 course_room before f g (Grows actor name epoch len unshut spent full is) fair h =
     let e : Entry = record { name = name; epoch = epoch; len = len; stands = Claimed actor } in
     let new : File = record f { line = f.line ++ e ∷ [] } in
-    let o : IsOrdered new = course_ordered f new (Grows actor name epoch len unshut spent full refl) (ordered_of before f h) in
+    let o : IsOrdered new = course_ordered f new (Grows actor name epoch len unshut spent full refl) h.ordered in
     let l = length-append f.line (e ∷ []) in
     let n = count_more free f.line e in
     subst (HasRoom before) is (with_ring before new o (all_more (λ (d : Entry). has_left d.stands ≡ true) f.line e h.fates refl)
     (grown_ring (claimed f) (claimed new) (freed f) (freed new) f.capacity before (not_full f full) (omega (arith, l)) (omega (arith, n))))
 course_room before f g (Shifts i s hand how room is) fair h =
     let new : File = record f { line = restand i s f.line; hand = hand } in
-    let o : IsOrdered new = course_ordered f new (Shifts i s hand how room refl) (ordered_of before f h) in
+    let o : IsOrdered new = course_ordered f new (Shifts i s hand how room refl) h.ordered in
     let l = length_restand i s f.line in
     let n = free_shift f.line i s how in
     subst (HasRoom before) is (with_ring before new o (fates_shift f.line i s fair h.fates)
     (kept_ring (claimed f) (claimed new) (freed f) (freed new) (max f.capacity before) h.ring (omega (arith, l)) (omega (arith, n))))
 course_room before f g (Fills hand none is) fair h =
     let new : File = record f { line = filled 64 f.line; hand = hand } in
-    let o : IsOrdered new = course_ordered f new (Fills hand none refl) (ordered_of before f h) in
+    let o : IsOrdered new = course_ordered f new (Fills hand none refl) h.ordered in
     let l = fills_length 64 f.line in
     let n = free_filled 64 f.line in
     subst (HasRoom before) is (with_ring before new o
     (filled_keeps (λ (line : List Entry). AllByRecursion (λ (e : Entry). has_left e.stands ≡ true) line) (λ line i front q. fates_shift line i Batched refl q) 64 f.line h.fates)
     (kept_ring (claimed f) (claimed new) (freed f) (freed new) (max f.capacity before) h.ring (omega (arith, l)) (omega (arith, n))))
 course_room before f g (Opens shut empty is) fair h =
-    subst (HasRoom before) is (record { parts = h.parts; fates = h.fates; batch = h.batch; ring = h.ring; places = h.places })
+    let o = h.ordered in
+    subst (HasRoom before) is (record { ordered = record { parts = o.parts; batch = o.batch; places = o.places }; fates = h.fates; ring = h.ring })
 course_room before f g (Resizes capacity is) fair h = absurd fair
 course_room before f g (Rests line first epoch capacity) fair h =
-    let o = course_ordered f g (Rests line first epoch capacity) (ordered_of before f h) in
+    let o = course_ordered f g (Rests line first epoch capacity) h.ordered in
     let c : claimed g ≡ claimed f = ap (λ (n : ℕ). n + length g.line) first ∙ ap (λ (l : List Entry). f.first + length l) line in
     let n : freed g ≡ freed f = ap (λ (n : ℕ). n + count free g.line) first ∙ ap (λ (l : List Entry). f.first + count free l) line in
     with_ring before g o (subst (λ (l : List Entry). AllByRecursion (λ (e : Entry). has_left e.stands ≡ true) l) (sym line) h.fates)

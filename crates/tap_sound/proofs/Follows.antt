@@ -36,7 +36,6 @@ use Rattle.tap_world.specs.Effect.{Effect, Onward, only}
 use Rattle.tap_world.specs.Effect.Onward.{Ends, Goes, Stays}
 use Rattle.tap_world.specs.Scripts.{is_kind, kind_number}
 use Rattle.tap_world.specs.Step as rows
-use Rattle.tap_world.specs.Step.{row}
 use Rattle.tap_world.specs.StepBackend as back
 use Rattle.tap_world.specs.StepTable as tables
 use Rattle.tap_sound.proofs.Kit.{WhereSome, where_only, where_then}

@@ -19,15 +19,15 @@ use Rattle.tap_world.specs.Effect.{Effect, Ending, Onward, actor_after, ended}
 use Rattle.tap_world.specs.Effect.Onward.{Ends, Goes, Stays}
 use Rattle.tap_world.specs.Step.{effect, row_of, step}
 use Rattle.tap_world.specs.Stands.{are_new, if_new, names_of, same_name, times, times_in}
+use Rattle.tap_world.specs.Each.{EachActor}
 use Rattle.tap_world.specs.SoundActors.{CanBe, can_be}
-use Rattle.tap_world.specs.Sound.{EachActor}
 use Rattle.tap_world.specs.Runs.{actors_from, begins, has_ended, opening, run, run_phases}
 use Rattle.tap_sound.specs.Fresh.{AreNumbered, ArePhasesNumbered}
-use Rattle.tap_sound.specs.Reached.{IsReached}
+use Rattle.tap_sound.specs.Worlds.{IsInPhase, IsWorldOf}
 use Rattle.tap_sound.proofs.Kit.{some_same, then_some, where_some}
 use Rattle.tap_sound.proofs.Scripts.{effect_actors, first_of_list}
 use Rattle.tap_sound.proofs.Stand.{stands_are_kept, stands_at}
-use Rattle.tap_sound.proofs.Reached.{new_stands}
+use Rattle.tap_sound.proofs.Reached.{new_stands, none_comes, phases_end}
 use Rattle.tap_sound.proofs.Taken.{IsEnding, IsStep, if_some, row_is, step_is, when_settled}
 use Rattle.tap_sound.proofs.NamesTimes.{effect_times}
 use Rattle.tap_sound.proofs.NamesKept.{none_placed}
@@ -303,13 +303,22 @@ row_new s w x r to h e =
     go ns (inl none) = ap (are_new w) none
     go ns {me} {n} (inr p) = ap (are_new w) p.1 ∙ ap (λ (b : Bool). b && 0 == 0 && true) (eq-eqb (times w (part me n p.0)) 0 p.2)
 
-pub names_are_new : (s : Scenario) (w : World) (x : Event) (r : Effect) → ArePhasesNumbered 0 s.phases → IsReached s w
+pub names_are_new : (s : Scenario) (w : World) (x : Event) (r : Effect) → ArePhasesNumbered 0 s.phases → IsWorldOf s w
     → row_of (setup_of s) w x ≡ Some r → effect (setup_of s) w x ≡ Some r
-names_are_new s w x r numbered reached e =
-    let before = phases_new (setup_of s) 0 0 (take reached.ended s.phases) reached.events (opening (setup_of s)) reached.before
-    (numbered_front 0 reached.ended s.phases numbered) reached.is_before (none_stands (setup_of s)) in
-    let n : ℕ = 0 + lines_in (take reached.ended s.phases) in
-    let now = run_new (setup_of s) reached.so_far (begins reached.ended reached.phase reached.before) w (n + length reached.phase.lines) reached.is
-    (begins_new reached.ended reached.phase reached.before n (numbered_at 0 reached.ended s.phases reached.phase numbered reached.is_next) before) in
-    ap (λ (o : Option Effect). o >>= λ y. if_new w y) e
-    ∙ ap (λ (b : Bool). only_if b r) (row_new (setup_of s) w x r (n + length reached.phase.lines) now e)
+names_are_new s w x r numbered reached e = ⊎_elim
+    (λ is.
+    let b = row_is (setup_of s) w x r e in
+    let ended = subst (λ (q : World). has_ended q ≡ true) (sym is)
+    (phases_end (setup_of s) 0 (take reached.ended s.phases) reached.is_before.events (opening (setup_of s)) reached.before reached.is_before.is refl) in
+    absurd (none_comes w x.actor b.actor b.now ended b.found b.current_is))
+    (λ p. go p) reached.now
+  where
+    go : IsInPhase s reached.ended reached.before w → effect (setup_of s) w x ≡ Some r
+    go p =
+        let before = phases_new (setup_of s) 0 0 (take reached.ended s.phases) reached.is_before.events (opening (setup_of s)) reached.before
+        (numbered_front 0 reached.ended s.phases numbered) reached.is_before.is (none_stands (setup_of s)) in
+        let n : ℕ = 0 + lines_in (take reached.ended s.phases) in
+        let now = run_new (setup_of s) p.so_far (begins reached.ended p.phase reached.before) w (n + length p.phase.lines) p.is
+        (begins_new reached.ended p.phase reached.before n (numbered_at 0 reached.ended s.phases p.phase numbered p.is_next) before) in
+        ap (λ (o : Option Effect). o >>= λ y. if_new w y) e
+        ∙ ap (λ (b : Bool). only_if b r) (row_new (setup_of s) w x r (n + length p.phase.lines) now e)

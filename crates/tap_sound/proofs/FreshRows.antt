@@ -5,7 +5,6 @@ use Rattle.std.proofs.lemmas.Bool.Decides.{eqb_tells}
 use Rattle.std.specs.Prelude.{if◌then◌else◌, ◌==◌, ◌&&◌, ◌||◌, is_none, not, nat_lt, slice_get}
 use Rattle.std.specs.Option.{option_map_or}
 use Rattle.guest_mem.specs.Memory.{Contents}
-use Rattle.tap_flow_key.specs.FlowKey.{hash}
 use Rattle.tap_frame.specs.declared.name.Name.{Name}
 use Rattle.tap_frame.specs.declared.reading.BadFrame.{BadFrame}
 use Rattle.tap_frame.specs.Frame.{FrameValue}
@@ -22,10 +21,7 @@ use Rattle.tap_steer.specs.Rules.{refuse}
 use Rattle.tap_steer.specs.Select as steer
 use Rattle.tap_steer.specs.Select.{learns}
 use Rattle.tap_steer.specs.Table.{Table, file_at, is_set}
-use Rattle.vhost_dev.specs.declared.error.VhostErr.{VhostErr}
-use Rattle.vhost_dev.specs.Refusals.{number_refusal}
 use Rattle.vhost_dev.specs.Settings.{hdr_of, ring_at}
-use Rattle.vring_turns.specs.declared.end.End.{End}
 use Rattle.vring_turns.specs.declared.stage.TxStage.{TxStage}
 use Rattle.vring_turns.specs.declared.stage.TxStage.TheVariants as tx
 use Rattle.vring_turns.specs.RxTurn.{RxTurn, rx_begun, rx_step}
@@ -42,7 +38,7 @@ use Rattle.tap_world.specs.declared.event.Found.{Found}
 use Rattle.tap_world.specs.declared.event.Found.TheVariants as found
 use Rattle.tap_world.specs.ByNumber.{at}
 use Rattle.tap_world.specs.Frames.{Front, bad_in, ether_in, least_in, sent_bytes, sent_front}
-use Rattle.tap_world.specs.Setup.{Setup, op_of}
+use Rattle.tap_world.specs.Setup.{Setup, op_of, frame_of}
 use Rattle.tap_world.specs.Line.{File, first_that, front_place, in_batch, in_ring, last_that}
 use Rattle.tap_world.specs.LineSteps.{changed, ready_front}
 use Rattle.tap_world.specs.LineSteps.Change.{Takes}
@@ -50,7 +46,6 @@ use Rattle.tap_world.specs.Guests.{Vhost, is_free, is_ring, turn_of}
 use Rattle.tap_world.specs.World.{Actor, Doing, World, name_of, newest, table}
 use Rattle.tap_world.specs.World.Doing.{Backed, Backs, Begun, Changes, Disowned, Given, Hosts, Learns, Opened, Opens, Owns, Placed, Purges, Reads, Receives, Released, Resizes, Routed, Shrinks, Teaches, Transmits, Unbacked, Withdrawn, Withdraws}
 use Rattle.tap_world.specs.Effect.{Effect, Onward, only}
-use Rattle.tap_world.specs.Effect.OnFiles.{NoFile}
 use Rattle.tap_world.specs.Effect.Onward.{Ends, Goes, Stays}
 use Rattle.tap_world.specs.Stands.{names_of, placed_by, times_in}
 use Rattle.vring_turns.specs.Stage.{is_giving}
@@ -67,11 +62,12 @@ use Rattle.tap_world.specs.StepTable as tables
 use Rattle.tap_world.specs.StepTurns as rx_turns
 use Rattle.tap_world.specs.StepTransmits as tx_turns
 use Rattle.tap_sound.proofs.Kit.{WhereSome, either, some_same, where_if, where_only, where_some, where_then}
-use Rattle.tap_sound.proofs.Steps.{held, or_else, own, owning, publication, turning}
+use Rattle.tap_sound.proofs.Steps.{held, or_else, own, owning, publication, turning, tx_made, rx_missed, rx_stepped, rx_taken, setting, unsetting}
 use Rattle.tap_sound.proofs.NamesRows.{IsNotGiving, not_giving}
 use Rattle.tap_sound.proofs.ShapeRows.{look_first}
 use Rattle.tap_sound.proofs.FreshTurns.{Accepts, Gives, give_accepts, step_accepts}
 use Rattle.tap_sound.proofs.FreshTurns.Accepts.{AsBefore, OneMore}
+use Rattle.tap_trace.specs.declared.turn.TurnText.{TurnText}
 
 give_stage : (st : TxStage) → is_kind event.HostIn (tx_next_kind st) ≡ true → st ≡ tx.Give
 give_stage tx.Give e = refl
@@ -219,7 +215,7 @@ module _ (F G : Name → Type 0) (me n : ℕ) where
 
   teaches : (w : World) (d : Doing) → AllTell d (tx_turns.teaches w d)
   teaches w (Teaches file t told f) = where_only (Tells (Teaches file t told f)) (is_none w.writer)
-      (record (only (Goes (newest w + 1) (Transmits file t told) (found.Version (newest w + 1))) w) { ops = op.Learn file (hash f.made) ∷ [] })
+      (record (only (Goes (newest w + 1) (Transmits file t told) (found.Version (newest w + 1))) w) { ops = op.Learn file f.flow ∷ [] })
       (λ b. λ h. (inl refl, λ g. (turn_on t (λ m x. g m x refl) h.0, λ give. absurd (true≢false (sym give ∙ h.1)))))
   teaches w d = tt
 
@@ -279,7 +275,7 @@ module _ (F G : Name → Type 0) (me n : ℕ) where
   leaves : (s : Setup) (w : World) (seen : ℕ) (d : Doing) → AllTell d (ring.leaves s w seen d)
   leaves s w seen (Reads file room front) = let d : Doing = Reads file room front in
       where_then (Tells d) (at w.files file) _ (λ f e1. where_then (Tells d) (first_that in_batch f.line) _
-      (λ i e2. where_then (Tells d) (slice_get f.line i) _ (λ x e3. λ h. (inl refl, λ g. tt))))
+      (λ i e2. where_then (Tells d) (slice_get f.line i) _ (λ x e3. where_then (Tells d) (frame_of s x.name x.len) _ (λ y e4. λ h. (inl refl, λ g. tt)))))
   leaves s w seen (Purges file version) = let d : Doing = Purges file version in
       where_then (Tells d) (at w.files file) _
       (λ f e1. where_then (Tells d) (ring.name_at f.line (first_that in_batch f.line)) _ (λ x e2. λ h. (inl refl, λ g. tt)))
@@ -320,7 +316,7 @@ module _ (F G : Name → Type 0) (me n : ℕ) where
   sets_back w d actor seen vhost r file x v m (Some y) = λ h. (inl refl, λ g. tt)
   sets_back w d actor seen vhost r file x v m None = λ h. (inl refl, λ g. tt)
 
-  unsets_back : (w : World) (d : Doing) (actor seen vhost r : ℕ) (v : Vhost) (m : Contents) (y : Option VhostErr) (file : Option ℕ)
+  unsets_back : (w : World) (d : Doing) (actor seen vhost r : ℕ) (v : Vhost) (m : Contents) (y : Option Answer) (file : Option ℕ)
       → Tells d (back.unsets_back w actor seen vhost r v m y file)
   unsets_back w d actor seen vhost r v m (Some y) file = λ h. (inl refl, λ g. tt)
   unsets_back w d actor seen vhost r v m None None = λ h. (inl refl, λ g. tt)
@@ -329,11 +325,12 @@ module _ (F G : Name → Type 0) (me n : ℕ) where
   backs : (s : Setup) (w : World) (actor seen : ℕ) (d : Doing) (c : Command) → AllTell d (back.backs s w actor seen d c)
   backs s w actor seen (Backs x) (command.Backend vhost r None) = let d : Doing = Backs x in
       where_then (Tells d) (at w.vhosts vhost) _ (λ v e1. where_then (Tells d) (at w.guests v.guest) _
-      (λ g e2. where_only (Tells d) _ _ (λ y. unsets_back w d actor seen vhost r v g.memory (number_refusal r) (ring_at r v.settings).file)))
+      (λ g e2. unsetting (Tells d) s w actor seen x vhost r v g.memory
+      (λ told e3. unsets_back w d actor seen vhost r v g.memory told (ring_at r v.settings).file)))
   backs s w actor seen (Backs x) (command.Backend vhost r (Some file)) = let d : Doing = Backs x in
       where_then (Tells d) (at w.vhosts vhost) _ (λ v e1. where_then (Tells d) (at w.guests v.guest) _
-      (λ g e2. where_only (Tells d) _ (back.back_call s w actor seen x vhost r (Some file) v g.memory)
-      (λ y. sets_back w d actor seen vhost r file x v g.memory _)))
+      (λ g e2. setting (Tells d) s w actor seen x vhost r file v g.memory
+      (λ told e3. sets_back w d actor seen vhost r file x v g.memory told)))
   backs s w actor seen d c = tt
 
   drive_row : (s : Setup) (w : World) (actor seen : ℕ) (d : Doing) (c : Command) → AllTell d (rows.drive_row s w actor seen d c)
@@ -353,7 +350,7 @@ module _ (F G : Name → Type 0) (me n : ℕ) where
 
   -- ---- turns
 
-  rx_after : (d : Doing) (seen file : ℕ) (t : RxTurn) (f : Found) (o : Option End) → FreshAfter d (rx_turns.rx_onward seen file t f o)
+  rx_after : (d : Doing) (seen file : ℕ) (t : RxTurn) (f : Found) (o : Option TurnText) → FreshAfter d (rx_turns.rx_onward seen file t f o)
   rx_after d seen file t f None = tt
   rx_after d seen file t f (Some e) = tt
 
@@ -365,7 +362,8 @@ module _ (F G : Name → Type 0) (me n : ℕ) where
 
   rx_steps_on : (w : World) (d : Doing) (actor seen vhost file : ℕ) (t : RxTurn) (v : Vhost) (m : Contents) → AllTell d (rx_turns.rx_steps_on w actor seen vhost file t v m)
   rx_steps_on w d actor seen vhost file t v m = where_then (Tells d) (rx_step hand.Off (rx_turns.rx_state t v m)) _
-      (λ made e. λ h. (inl (rx_none vhost file t t.stage), λ g. rx_after d seen file made.0.turn _ (rx_turns.rx_over made.0.turn.stage)))
+      (λ made e. rx_stepped (Tells d) w actor seen vhost file t v made
+      (λ f over e2 told. λ h. (inl (rx_none vhost file t t.stage), λ g. rx_after d seen file made.0.turn f over)))
 
   fresh_step : (t : TxTurn) (made : TxState × Act) → Accepts t made → ((m : Name) → F m → G m) → FreshTurn me n F t → FreshTurn me n G made.0.turn × FreshFrame me n G made.0.turn
   fresh_step t made (AsBefore first accepted quiet) g h = (
@@ -382,20 +380,20 @@ module _ (F G : Name → Type 0) (me n : ℕ) where
     ),
   )
 
-  tx_after : (d : Doing) (seen file : ℕ) (chains : List ChainText) (f : Found) (t : TxTurn) (st : TxStage) → FreshTurn me n G t × FreshFrame me n G t
-      → FreshAfter d (tx_turns.tx_onward seen file t chains f (tx_turns.tx_over st))
-  tx_after d seen file chains f t (tx.Ended x) h = tt
-  tx_after d seen file chains f t st h = h
+  tx_after : (d : Doing) (seen file : ℕ) (chains : List ChainText) (f : Found) (t : TxTurn) (over : Option TurnText) → FreshTurn me n G t × FreshFrame me n G t
+      → FreshAfter d (tx_turns.tx_onward seen file t chains f over)
+  tx_after d seen file chains f t (Some x) h = tt
+  tx_after d seen file chains f t None h = h
 
   tx_steps_on : (w : World) (d : Doing) (actor seen vhost file : ℕ) (t : TxTurn) (chains : List ChainText) (v : Vhost) (m : Contents) → is_giving t.stage ≡ false
       → (Fresh me n F d → FreshTurn me n F t) → AllTell d (tx_turns.tx_steps_on w actor seen vhost file t chains v m)
   tx_steps_on w d actor seen vhost file t chains v m quiet before = where_then (Tells d) (tx_step (tx_turns.tx_state t v m)) _
-      (λ made e. λ h. (
+      (λ made e. tx_made (Tells d) w actor seen vhost file chains v made (λ step over e2 end_. λ h. (
         inl refl,
-        λ g. tx_after d seen file _ _ made.0.turn made.0.turn.stage
+        λ g. tx_after d seen file _ _ made.0.turn over
             (fresh_step t made (where_some (Accepts t) (tx_step (tx_turns.tx_state t v m)) made (step_accepts t.stage (tx_turns.tx_state t v m) quiet) e)
             (λ x y. g x y refl) (before h)),
-      ))
+      )))
 
   begins : (w : World) (seen : ℕ) (c : Command) → AllTell Begun (tx_turns.turn_begins w me n seen c)
   begins w seen c = where_then (Tells Begun) (rx_turns.turn_on c) _ (λ t e1. where_then (Tells Begun) (at w.vhosts t.0) _ (λ v e2. where_then (Tells Begun) (at w.guests v.guest) _
@@ -420,15 +418,15 @@ module _ (F G : Name → Type 0) (me n : ℕ) where
       turning (Tells d) w c _ (λ vhost v m. where_then (Tells d) (at w.files file) _
       (λ f e1. where_then (Tells d) (changed (Takes vhost) f) _ (λ g e2. where_then (Tells d) (rx_turns.front_frame s g) _
       (λ frame e3. where_then (Tells d) (rx_step (hand.Got frame) (rx_turns.rx_state t v m)) _
-      (λ made e. λ h. (inl refl, λ g. rx_after d seen file made.0.turn (found.Moved frame.name) (rx_turns.rx_over made.0.turn.stage)))))))
+      (λ made e. rx_taken (Tells d) w actor seen vhost file v frame made (λ over told. λ h. (inl refl, λ g. rx_after d seen file made.0.turn _ over)))))))
   hands s w actor seen d c = tt
 
   finds_nothing : (w : World) (actor seen : ℕ) (d : Doing) (c : Command) → AllTell d (tx_turns.turn_finds_none w actor seen d c)
   finds_nothing w actor seen (Receives file t) c = let d : Doing = Receives file t in
       turning (Tells d) w c _ (λ vhost v m. where_then (Tells d) (at w.files file) _
       (λ f e1. where_then (Tells d) (rx_step (hand.NotReady (front_place f)) (rx_turns.rx_state t v m)) _
-      (λ made e. where_only (Tells d) _ (rx_turns.rx_event w actor seen vhost file v NoFile (found.NotReady (front_place f)) made)
-      (λ x. λ h. (inl refl, λ g. rx_after d seen file made.0.turn (found.NotReady (front_place f)) (rx_turns.rx_over made.0.turn.stage))))))
+      (λ made e. rx_missed (Tells d) w actor seen vhost file v f made
+      (λ over told. λ h. (inl refl, λ g. rx_after d seen file made.0.turn _ over)))))
   finds_nothing w actor seen d c = tt
 
   -- the frame that is given is the one that was accepted last

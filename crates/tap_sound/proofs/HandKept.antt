@@ -27,12 +27,13 @@ use Rattle.tap_world.specs.Effect.{Effect, Ending, OnFiles, Onward, actor_after,
 use Rattle.tap_world.specs.Effect.OnFiles.{NoFile, OnFile}
 use Rattle.tap_world.specs.Scripts.{is_kind, next_kind}
 use Rattle.tap_world.specs.Step.{row, step}
+use Rattle.tap_world.specs.Each.{EachActor, EachFile}
 use Rattle.tap_world.specs.SoundActors.{CanBe, can_be}
 use Rattle.tap_world.specs.SoundRings.{is_about}
 use Rattle.vring_turns.specs.Stage.{has_in_hand}
-use Rattle.tap_world.specs.Sound.{EachActor, EachFile, HandIsOwners, InThreeParts, front_name, holds_name, is_receiving, is_serving}
+use Rattle.tap_world.specs.Sound.{HandIsOwners, InThreeParts, front_name, holds_name, is_receiving, is_serving}
 use Rattle.tap_world.specs.Runs.{begins, has_ended, opening, run, run_phases}
-use Rattle.tap_sound.specs.Reached.{IsReached}
+use Rattle.tap_sound.specs.Worlds.{IsWorldOf}
 use Rattle.tap_sound.proofs.Kit.{some_same, then_some, where_some}
 use Rattle.tap_sound.proofs.Scripts.{effect_actors, ended_each}
 use Rattle.tap_sound.proofs.Kept.{effect_files, parts_are_kept}
@@ -345,8 +346,9 @@ phases_held s number (p ∷ ps) (es ∷ more) w v e h =
     phases_held s (number + 1) ps more t.0 v c.1
     (run_held s es (begins number p w) t.0 t.1 (begins_held number p w h.0 h.1), λ i a at_. rest i a at_ (ended_each t.0.actors i a c.0 at_))
 
-pub hand_in_runs : (s : Scenario) (w : World) → IsReached s w → EachFile w (HandIsOwners w)
+pub hand_in_runs : (s : Scenario) (w : World) → IsWorldOf s w → EachFile w (HandIsOwners w)
 hand_in_runs s w r =
-    let before = phases_held (setup_of s) 0 (take r.ended s.phases) r.events (opening (setup_of s)) r.before r.is_before
+    let before = phases_held (setup_of s) 0 (take r.ended s.phases) r.is_before.events (opening (setup_of s)) r.before r.is_before.is
     (opening_held (setup_of s), λ i a at_. absurd (no_actor i a at_)) in
-    (run_held (setup_of s) r.so_far (begins r.ended r.phase r.before) w r.is (begins_held r.ended r.phase r.before before.0 before.1)).2
+    ⊎_elim (λ is. subst (λ (q : World). EachFile q (HandIsOwners q)) (sym is) before.0.2)
+    (λ p. (run_held (setup_of s) p.so_far (begins r.ended p.phase r.before) w p.is (begins_held r.ended p.phase r.before before.0 before.1)).2) r.now

@@ -1,6 +1,6 @@
 -- What the events of a receive turn do with the frame in hand.
 use Rattle.std.proofs.Common.{◌≡◌, ◌⊎◌, ℕ, List, Bool, true, false, Option, Some, None, inl, inr, refl, sym, ap, ◌∙◌, subst, true≢false}
-use Rattle.std.specs.Prelude.{◌+◌, length, option_map, slice_get}
+use Rattle.std.specs.Prelude.{◌+◌, length, option_map, slice_get, min}
 use Rattle.tap_frame.specs.Frame.{FrameValue}
 use Rattle.tap_ledger.specs.declared.act.Act.{Act}
 use Rattle.tap_ledger.specs.declared.fate.Fate.{Fate}
@@ -23,7 +23,7 @@ use Rattle.tap_world.specs.declared.event.Found.TheVariants as found
 use Rattle.tap_world.specs.ByNumber.{at}
 use Rattle.tap_ground.specs.Options.{◌>>=◌}
 use Rattle.tap_world.specs.Frames.{FrameText}
-use Rattle.tap_world.specs.Setup.{Numbered, Setup, frame_of}
+use Rattle.tap_world.specs.Setup.{Numbered, Setup, frame_sent}
 use Rattle.tap_world.specs.declared.line.Entry.{Entry}
 use Rattle.tap_world.specs.Line.{File, first_that, in_batch}
 use Rattle.tap_world.specs.LineSteps.{changed}
@@ -41,8 +41,9 @@ use Rattle.tap_world.specs.SoundActors.{can_be}
 use Rattle.vring_turns.specs.Stage.{has_in_hand}
 use Rattle.tap_world.specs.Sound.{front_name}
 use Rattle.tap_sound.proofs.Kit.{WhereSome, some_same, some_then, then_some, where_some, where_then}
-use Rattle.tap_sound.proofs.Steps.{turning}
+use Rattle.tap_sound.proofs.Steps.{turning, over_none, rx_stepped, rx_taken}
 use Rattle.tap_sound.proofs.Follows.{at_kind}
+use Rattle.tap_trace.specs.declared.turn.TurnText.{TurnText}
 
 -- ---- steps with a frame in hand, after which it still is
 
@@ -121,27 +122,29 @@ abbrev pub Keeps : ℕ → Option FrameValue → Effect → Type 0
 Keeps file held r = GoesHeld file held r.onward ⊎ Frees file r.files
 
 onward_held : (seen file : ℕ) (held : Option FrameValue) (f : Found) (made : RxState × Act) → Held held made
-    → GoesHeld file held (rx_turns.rx_onward seen file made.0.turn f (rx_turns.rx_over made.0.turn.stage))
-onward_held seen file held f made h = (seen, made.0.turn, f, ap (rx_turns.rx_onward seen file made.0.turn f) (not_over made.0.turn.stage h.0), h.0, h.1)
+    → (over : Option TurnText) → rx_turns.over_told (rx_turns.rx_over made.0.turn.stage) ≡ Some over → GoesHeld file held (rx_turns.rx_onward seen file made.0.turn f over)
+onward_held seen file held f made h over told =
+    (seen, made.0.turn, f, ap (rx_turns.rx_onward seen file made.0.turn f) (over_none _ over told (not_over made.0.turn.stage h.0)), h.0, h.1)
 
 made_keeps : (st : RxStage) (seen vhost file : ℕ) (t : RxTurn) (f : Found) (made : RxState × Act) → t.stage ≡ st → has_in_hand st ≡ true → (goes_on st ≡ true → Held t.held made)
-    → GoesHeld file t.held (rx_turns.rx_onward seen file made.0.turn f (rx_turns.rx_over made.0.turn.stage)) ⊎ Frees file (rx_turns.rx_change vhost file t t.stage)
+    → (over : Option TurnText) → rx_turns.over_told (rx_turns.rx_over made.0.turn.stage) ≡ Some over
+    → GoesHeld file t.held (rx_turns.rx_onward seen file made.0.turn f over) ⊎ Frees file (rx_turns.rx_change vhost file t t.stage)
 unfolding goes_on
-made_keeps rx.Out seen vhost file t f made is h on = inr (inl (Some vhost, fate.Guest, ap (rx_turns.rx_change vhost file t) is))
-made_keeps (rx.Discard had) seen vhost file t f made is h on = inr (inl (Some vhost, _, ap (rx_turns.rx_change vhost file t) is))
-made_keeps (rx.PutBack x) seen vhost file t f made is h on = inr (inr (vhost, ap (rx_turns.rx_change vhost file t) is))
-made_keeps rx.Begin seen vhost file t f made is h on = absurd (true≢false (sym h))
-made_keeps rx.Hand seen vhost file t f made is h on = absurd (true≢false (sym h))
-made_keeps (rx.Publish x) seen vhost file t f made is h on = absurd (true≢false (sym h))
-made_keeps (rx.Ended x) seen vhost file t f made is h on = absurd (true≢false (sym h))
-made_keeps st seen vhost file t f made is h on = inl (onward_held seen file t.held f made (on refl))
+made_keeps rx.Out seen vhost file t f made is h on over told = inr (inl (Some vhost, fate.Guest, ap (rx_turns.rx_change vhost file t) is))
+made_keeps (rx.Discard had) seen vhost file t f made is h on over told = inr (inl (Some vhost, _, ap (rx_turns.rx_change vhost file t) is))
+made_keeps (rx.PutBack x) seen vhost file t f made is h on over told = inr (inr (vhost, ap (rx_turns.rx_change vhost file t) is))
+made_keeps rx.Begin seen vhost file t f made is h on over told = absurd (true≢false (sym h))
+made_keeps rx.Hand seen vhost file t f made is h on over told = absurd (true≢false (sym h))
+made_keeps (rx.Publish x) seen vhost file t f made is h on over told = absurd (true≢false (sym h))
+made_keeps (rx.Ended x) seen vhost file t f made is h on over told = absurd (true≢false (sym h))
+made_keeps st seen vhost file t f made is h on over told = inl (onward_held seen file t.held f made (on refl) over told)
 
 turn_keeps : (w : World) (actor n seen file : ℕ) (t : RxTurn) (c : Command) → has_in_hand t.stage ≡ true
     → WhereSome (Keeps file t.held) (tx_turns.turns w actor n seen (Receives file t) c)
 turn_keeps w actor n seen file t c h = turning (Keeps file t.held) w c (tx_turns.goes_on w actor seen (Receives file t))
     (λ vhost v m. where_then (Keeps file t.held) (turn.rx_step hand.Off (rx_turns.rx_state t v m)) _
-    (λ made e. made_keeps t.stage seen vhost file t _ made refl h
-    (λ on. where_some (Held t.held) (turn.rx_step hand.Off (rx_turns.rx_state t v m)) made (next_held t.stage (rx_turns.rx_state t v m) refl on) e)))
+    (λ made e. rx_stepped (Keeps file t.held) w actor seen vhost file t v made (λ f over e2 told. made_keeps t.stage seen vhost file t f made refl h
+    (λ on. where_some (Held t.held) (turn.rx_step hand.Off (rx_turns.rx_state t v m)) made (next_held t.stage (rx_turns.rx_state t v m) refl on) e) over told)))
 
 -- the row of the event that comes next in such a turn
 pub row_keeps : (s : Setup) (w : World) (k : EventKind) (actor seen : ℕ) (script : List Numbered) (n file : ℕ) (t : RxTurn) (c : Command) (st : RxStage) → t.stage ≡ st
@@ -178,10 +181,10 @@ got_held st frame s is = subst (λ (x : RxStage). WhereSome (Held (Some frame)) 
 
 -- the frame is the batch's front
 abbrev frame_made : Entry → FrameText → FrameValue
-frame_made e f = record { name = e.name; hdr = f.hdr; made = f.ether; mark = length f.ether }
+frame_made e f = record { name = e.name; hdr = f.hdr; made = f.ether; mark = min e.len (length f.ether) }
 
 frame_named : (s : Setup) (e : Entry) (frame : FrameValue) → rx_turns.frame_at s e ≡ Some frame → e.name ≡ frame.name
-frame_named s e frame h = go (frame_of s e.name e.len) h
+frame_named s e frame h = go (frame_sent s e.name) h
   where
     go : (o : Option FrameText) → option_map (frame_made e) o ≡ Some frame → e.name ≡ frame.name
     go None k = absurd (cc (k))
@@ -214,7 +217,7 @@ hands_take s w actor seen (Receives file t) (command.RxTurn vhost) can e =
     where_then (TakesBy w c) (at w.vhosts vhost) _ (λ v e1. where_then (TakesBy w c) (at w.guests v.guest) _
     (λ g e2. where_then (TakesBy w c) (at w.files file) _ (λ f e3. where_then (TakesBy w c) (changed (Takes vhost) f) _
     (λ h e4. where_then (TakesBy w c) (rx_turns.front_frame s h) _ (λ frame e5. where_then (TakesBy w c) (turn.rx_step (hand.Got frame) (rx_turns.rx_state t v g.memory)) _
-    (λ made e6. record {
+    (λ made e6. rx_taken (TakesBy w c) w actor seen vhost file v frame made (λ over told. record {
       vhost = vhost;
       file = file;
       files = refl;
@@ -226,8 +229,8 @@ hands_take s w actor seen (Receives file t) (command.RxTurn vhost) can e =
       front = front_named s h frame e5;
       goes = onward_held seen file (Some frame) (found.Moved frame.name) made
           (where_some (Held (Some frame)) (turn.rx_step (hand.Got frame) (rx_turns.rx_state t v g.memory)) made
-          (got_held t.stage frame (rx_turns.rx_state t v g.memory) (sym (hand_stage w file t.stage e))) e6);
+          (got_held t.stage frame (rx_turns.rx_state t v g.memory) (sym (hand_stage w file t.stage e))) e6) over told;
       asked = refl;
-    }))))))
+    })))))))
 hands_take s w actor seen (Receives file t) c can e = absurd (true≢false (sym can))
 hands_take s w actor seen d c can e = tt

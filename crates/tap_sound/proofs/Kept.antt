@@ -19,8 +19,9 @@ use Rattle.tap_world.specs.Effect.{Effect, OnFiles, Onward, actor_after, files_a
 use Rattle.tap_world.specs.Effect.Onward.{Ends, Goes, Stays}
 use Rattle.tap_world.specs.Effect.OnFiles.{NoFile, OnFile}
 use Rattle.tap_world.specs.Step.{step}
-use Rattle.tap_world.specs.Sound.{EachActor, EachFile, HasEpochs, HasRoom, HasSeen, InThreeParts, table_capacity}
-use Rattle.tap_sound.specs.Kept.{IsOrdered, leaves_sizes}
+use Rattle.tap_world.specs.Each.{EachActor, EachFile}
+use Rattle.tap_world.specs.Sound.{HasEpochs, HasRoom, HasSeen, InThreeParts, IsOrdered, table_capacity}
+use Rattle.tap_sound.specs.Kept.{leaves_sizes}
 use Rattle.tap_sound.proofs.Kit.{some_same, then_some, where_some}
 use Rattle.tap_sound.proofs.Scripts.{effect_actors}
 use Rattle.tap_sound.proofs.Tame.{HasGoodFate, HasSeenTo, IsTame, KeepsSize}

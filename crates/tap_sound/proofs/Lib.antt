@@ -1,19 +1,18 @@
-mod Kit
-mod TurnEvents
+pub mod Kit
 mod Forms
 mod Left
 mod Rows
 mod Follows
-mod Steps
+pub mod Steps
 mod Firsts
 mod Doings
 mod Ways
-mod Taken
-mod Scripts
+pub mod Taken
+pub mod Scripts
 mod Whole
 mod Entries
 mod Files
-mod Kept
+pub mod Kept
 mod Tame
 mod TameRows
 mod Used
@@ -23,13 +22,13 @@ mod Claiming
 mod Claims
 mod Shut
 mod Reached
-mod Shapes
-mod ShapeRows
-mod Turned
-mod Writers
+pub mod Shapes
+pub mod ShapeRows
+pub mod Turned
+pub mod Writers
 mod Calls
 mod Turns
-mod Held
+pub mod Held
 mod NamesTurns
 mod NamesRows
 mod NamesTimes
@@ -41,10 +40,10 @@ mod FileRows
 mod HandTurns
 mod HandFiles
 mod HandKept
-mod Views
-mod TableFiles
-mod Agreeing
-mod Publishing
+pub mod Views
+pub mod TableFiles
+pub mod Agreeing
+pub mod Publishing
 mod TableKept
 mod TableEvents
 mod Backers
@@ -66,4 +65,4 @@ mod EventRings
 mod CallRings
 mod DriveRings
 mod SoundRuns
-mod WorldsKept
+mod Worlds

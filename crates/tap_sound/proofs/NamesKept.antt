@@ -17,7 +17,7 @@ use Rattle.tap_world.specs.Step.{step}
 use Rattle.tap_world.specs.Stands.{names_of, times, times_in, times_placed}
 use Rattle.tap_world.specs.SoundNames.{AcceptedStand, EndedStand, NamesStandOnce, accepted_by, awaited}
 use Rattle.tap_world.specs.Runs.{IsRun, actors_from, begins, has_ended, new_file, opening, run, run_phases}
-use Rattle.tap_sound.specs.Reached.{IsReached}
+use Rattle.tap_sound.specs.Worlds.{IsWorldOf}
 use Rattle.tap_sound.proofs.Kit.{some_same, then_some, where_some}
 use Rattle.tap_sound.proofs.Scripts.{effect_actors}
 use Rattle.tap_sound.proofs.Taken.{IsStep, each_with_nth, if_some, step_is, when_settled}
@@ -192,7 +192,8 @@ phases_kept s number (p ∷ ps) (es ∷ more) w v e h =
 pub names_stand_after_runs : (s : Scenario) (events : List (List Event)) (w : World) → IsRun s events w → NamesStandOnce w
 names_stand_after_runs s events w e = phases_kept (setup_of s) 0 s.phases events (opening (setup_of s)) w e (opening_kept (setup_of s))
 
-pub names_stand_in_runs : (s : Scenario) (w : World) → IsReached s w → NamesStandOnce w
+pub names_stand_in_runs : (s : Scenario) (w : World) → IsWorldOf s w → NamesStandOnce w
 names_stand_in_runs s w r =
-    let before = phases_kept (setup_of s) 0 (take r.ended s.phases) r.events (opening (setup_of s)) r.before r.is_before (opening_kept (setup_of s)) in
-    run_kept (setup_of s) r.so_far (begins r.ended r.phase r.before) w r.is (begins_kept r.ended r.phase r.before before)
+    let before = phases_kept (setup_of s) 0 (take r.ended s.phases) r.is_before.events (opening (setup_of s)) r.before r.is_before.is (opening_kept (setup_of s)) in
+    ⊎_elim (λ is. subst NamesStandOnce (sym is) before)
+    (λ p. run_kept (setup_of s) p.so_far (begins r.ended p.phase r.before) w p.is (begins_kept r.ended p.phase r.before before)) r.now

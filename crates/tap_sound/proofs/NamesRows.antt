@@ -4,7 +4,6 @@ use Rattle.std.specs.Prelude.{if◌then◌else◌, ◌==◌, ◌&&◌, ◌||◌,
 use Rattle.std.specs.List.{AllByRecursion}
 use Rattle.std.specs.Option.{option_map_or}
 use Rattle.guest_mem.specs.Memory.{Contents, first_bad}
-use Rattle.tap_flow_key.specs.FlowKey.{hash}
 use Rattle.tap_frame.specs.declared.name.Name.{Name}
 use Rattle.tap_frame.specs.declared.reading.BadFrame.{BadFrame}
 use Rattle.tap_frame.specs.Frame.{FrameValue}
@@ -23,14 +22,13 @@ use Rattle.tap_steer.specs.Select.{learns}
 use Rattle.tap_steer.specs.Table.{Table, file_at, is_set}
 use Rattle.vhost_dev.specs.declared.error.VhostErr.{VhostErr}
 use Rattle.vhost_dev.specs.Refusals.{addr_refusal, base_refusal, features_refusal, num_refusal, number_refusal}
-use Rattle.vhost_dev.specs.Settings.{hdr_of, ring_at}
+use Rattle.vhost_dev.specs.Settings.{hdr_of, ring_at, Settings}
 use Rattle.vring_drive.specs.declared.error.DriveErr.{DriveErr}
 use Rattle.vring_drive.specs.declared.error.PostErr.{PostErr}
 use Rattle.vring_drive.specs.Area.{drive_refusal}
 use Rattle.vring_drive.specs.Books.{Books, first_books}
 use Rattle.vring_drive.specs.Harvests.{harvested}
 use Rattle.vring_drive.specs.Posts.{post_in_refusal, post_out_refusal}
-use Rattle.vring_turns.specs.declared.end.End.{End}
 use Rattle.vring_turns.specs.declared.stage.TxStage.{TxStage}
 use Rattle.vring_turns.specs.declared.stage.TxStage.TheVariants as tx
 use Rattle.vring_turns.specs.RxTurn.{RxTurn, rx_begun, rx_step}
@@ -50,15 +48,14 @@ use Rattle.tap_world.specs.declared.event.Found.{Found}
 use Rattle.tap_world.specs.declared.event.Found.TheVariants as found
 use Rattle.tap_world.specs.ByNumber.{at}
 use Rattle.tap_world.specs.Frames.{Front, bad_in, ether_in, least_in, sent_bytes, sent_front}
-use Rattle.tap_world.specs.Setup.{Setup, op_of}
+use Rattle.tap_world.specs.Setup.{Setup, op_of, frame_of}
 use Rattle.tap_world.specs.Line.{File, first_that, front_place, in_batch, in_ring, last_that}
 use Rattle.tap_world.specs.LineSteps.{changed, ready_front}
 use Rattle.tap_world.specs.LineSteps.Change.{Takes}
-use Rattle.tap_world.specs.Guests.{Vhost, driver_of, is_free, is_ring, turn_of}
+use Rattle.tap_world.specs.Guests.{Vhost, driver_of, is_free, is_ring, turn_of, vhost_answer, vhost_text}
 use Rattle.tap_world.specs.World.{Actor, Doing, World, name_of, newest, table}
 use Rattle.tap_world.specs.World.Doing.{Backed, Backs, Begun, Changes, Disowned, Given, Hosts, Learns, Opened, Opens, Owns, Placed, Purges, Reads, Receives, Released, Resizes, Routed, Shrinks, Teaches, Transmits, Unbacked, Withdrawn, Withdraws}
 use Rattle.tap_world.specs.Effect.{Effect, Onward, only}
-use Rattle.tap_world.specs.Effect.OnFiles.{NoFile}
 use Rattle.tap_world.specs.Effect.Onward.{Ends, Goes, Stays}
 use Rattle.tap_world.specs.Stands.{names_of}
 use Rattle.vring_turns.specs.Stage.{is_giving}
@@ -72,9 +69,12 @@ use Rattle.tap_world.specs.StepTable as tables
 use Rattle.tap_world.specs.StepTurns as rx_turns
 use Rattle.tap_world.specs.StepTransmits as tx_turns
 use Rattle.tap_sound.proofs.Kit.{WhereSome, either, some_same, where_if, where_only, where_some, where_then}
-use Rattle.tap_sound.proofs.Steps.{held, or_else, own, owning, publication, turning}
+use Rattle.tap_sound.proofs.Steps.{held, or_else, own, owning, publication, turning, tx_made, rx_missed, rx_stepped, rx_taken, setting, unsetting}
 use Rattle.tap_sound.proofs.NamesTurns.{Adds, step_adds}
 use Rattle.tap_sound.proofs.NamesTurns.Adds.{OneMore, Same}
+use Rattle.tap_trace.specs.declared.turn.TurnText.{TurnText}
+use Rattle.tap_trace.specs.declared.causes.VhostText.{VhostText}
+use Rattle.tap_trace.specs.declared.causes.DriveText.{DriveText}
 
 -- ---- all names
 
@@ -221,7 +221,7 @@ module _ (P : Name → Type 0) (me n : ℕ) where
 
   teaches : (w : World) (d : Doing) → AllTell d (tx_turns.teaches w d)
   teaches w (Teaches file t told f) = where_only (Tells (Teaches file t told f)) (is_none w.writer)
-      (record (only (Goes (newest w + 1) (Transmits file t told) (found.Version (newest w + 1))) w) { ops = op.Learn file (hash f.made) ∷ [] })
+      (record (only (Goes (newest w + 1) (Transmits file t told) (found.Version (newest w + 1))) w) { ops = op.Learn file f.flow ∷ [] })
       (λ b. λ h k. told_on (Transmits file t told) (got_in told) h)
   teaches w d = tt
 
@@ -281,7 +281,7 @@ module _ (P : Name → Type 0) (me n : ℕ) where
   leaves : (s : Setup) (w : World) (seen : ℕ) (d : Doing) → AllTell d (ring.leaves s w seen d)
   leaves s w seen (Reads file room front) = let d : Doing = Reads file room front in
       where_then (Tells d) (at w.files file) _ (λ f e1. where_then (Tells d) (first_that in_batch f.line) _
-      (λ i e2. where_then (Tells d) (slice_get f.line i) _ (λ x e3. λ h k. tt)))
+      (λ i e2. where_then (Tells d) (slice_get f.line i) _ (λ x e3. where_then (Tells d) (frame_of s x.name x.len) _ (λ y e4. λ h k. tt))))
   leaves s w seen (Purges file version) = let d : Doing = Purges file version in
       where_then (Tells d) (at w.files file) _
       (λ f e1. where_then (Tells d) (ring.name_at f.line (first_that in_batch f.line)) _ (λ x e2. λ h k. tt))
@@ -320,16 +320,35 @@ module _ (P : Name → Type 0) (me n : ℕ) where
   abbrev IsSilent : control.Call → Type 0
   IsSilent x = All P (accepted_in me n x.answer)
 
-  told_by : (e : Option VhostErr) (x : Answer) → All P (accepted_in me n x) → All P (accepted_in me n (control.told_by e x))
-  told_by None x h = h
-  told_by (Some e) x h = tt
+  abbrev Tacit : Answer → Type 0
+  Tacit x = All P (accepted_in me n x)
 
-  with_books : (k : Kind) (v : Vhost) (m : Contents) (o : Option Books) (call : Books → control.Call) → ((b : Books) → IsSilent (call b)) → IsSilent (control.with_books k v m o call)
+  vhost_tacit : (e : VhostErr) → WhereSome Tacit (vhost_answer e)
+  vhost_tacit e = go (vhost_text e)
+    where
+      go : (o : Option VhostText) → WhereSome Tacit (option_map (λ x. answer.Vhost x) o)
+      go None = tt
+      go (Some x) = tt
+
+  told_by : (e : Option VhostErr) (x : Answer) → Tacit x → WhereSome Tacit (control.told_by e x)
+  told_by None x h = h
+  told_by (Some e) x h = vhost_tacit e
+
+  called : (e : Option VhostErr) (changed : Settings) (x : Answer) (k : Option Kind) (v : Vhost) (m : Contents) → Tacit x
+      → WhereSome IsSilent (control.called e changed x k v m)
+  called e changed x k v m h = where_then IsSilent (control.told_by e x) _ (λ told q. where_some Tacit (control.told_by e x) told (told_by e x h) q)
+
+  with_books : (k : Kind) (v : Vhost) (m : Contents) (o : Option Books) (call : Books → Option control.Call) → ((b : Books) → WhereSome IsSilent (call b))
+      → WhereSome IsSilent (control.with_books k v m o call)
   with_books k v m None call h = tt
   with_books k v m (Some b) call h = h b
 
-  posts : (vhost r : ℕ) (o : Option PostErr) (need : ℕ) (after : Contents) (b : Books) (v : Vhost) (m : Contents) → IsSilent (control.posts vhost r o need after b v m)
-  posts vhost r (Some e) need after b v m = tt
+  refused : (k : Kind) (v : Vhost) (m : Contents) (o : Option DriveText) → WhereSome IsSilent (control.refused k v m o)
+  refused k v m None = tt
+  refused k v m (Some x) = tt
+
+  posts : (vhost r : ℕ) (o : Option PostErr) (need : ℕ) (after : Contents) (b : Books) (v : Vhost) (m : Contents) → WhereSome IsSilent (control.posts vhost r o need after b v m)
+  posts vhost r (Some e) need after b v m = refused (kind.Post vhost r) v m (control.post_told e)
   posts vhost r None need after b v m = tt
 
   stray : (o : Option ℕ) (x : Answer) → All P (accepted_in me n x) → All P (accepted_in me n (option_map_or (λ id. answer.Drive (drive_text.Stray id)) o x))
@@ -337,9 +356,9 @@ module _ (P : Name → Type 0) (me n : ℕ) where
   stray (Some id) x h = tt
 
   driven : (o : Option DriveErr) (vhost r : ℕ) (v : Vhost) (m : Contents) (x : control.Call) → IsSilent x
-      → IsSilent (option_map_or (λ e. control.undriven (kind.Drive vhost r) v m (answer.Drive (control.drive_told e))) o x)
+      → WhereSome IsSilent (option_map_or (λ e. control.refused (kind.Drive vhost r) v m (control.drive_told e)) o (Some x))
   driven None vhost r v m x h = h
-  driven (Some e) vhost r v m x h = tt
+  driven (Some e) vhost r v m x h = refused (kind.Drive vhost r) v m (control.drive_told e)
 
   driver_call : (c : Command) (v : Vhost) (m : Contents) → WhereSome IsSilent (control.driver_call c v m)
   driver_call (command.DriveAt vhost r addr) v m =
@@ -352,11 +371,11 @@ module _ (P : Name → Type 0) (me n : ℕ) where
   driver_call c v m = tt
 
   call_of : (c : Command) (v : Vhost) (m : Contents) → WhereSome IsSilent (control.call_of c v m)
-  call_of (command.Features vhost bits) v m = told_by (features_refusal bits v.settings) answer.Done tt
-  call_of (command.VNum vhost r x) v m = told_by (num_refusal r x v.settings) answer.Done tt
-  call_of (command.VBase vhost r x) v m = told_by (base_refusal r x v.settings) answer.Done tt
-  call_of (command.VAddr vhost r desc avail used) v m = told_by (addr_refusal r desc avail used m v.settings) answer.Done tt
-  call_of (command.GetBase vhost r) v m = told_by (number_refusal r) (answer.Base (ring_at r v.settings).queue.positions.next) tt
+  call_of (command.Features vhost bits) v m = called (features_refusal bits v.settings) _ answer.Done _ v m tt
+  call_of (command.VNum vhost r x) v m = called (num_refusal r x v.settings) _ answer.Done _ v m tt
+  call_of (command.VBase vhost r x) v m = called (base_refusal r x v.settings) _ answer.Done _ v m tt
+  call_of (command.VAddr vhost r desc avail used) v m = called (addr_refusal r desc avail used m v.settings) _ answer.Done _ v m tt
+  call_of (command.GetBase vhost r) v m = called (number_refusal r) _ (answer.Base (ring_at r v.settings).queue.positions.next) _ v m tt
   call_of c v m = driver_call c v m
 
   calls : (w : World) (d : Doing) (actor seen : ℕ) (c : Command) → AllTell d (control.calls w actor seen c)
@@ -367,31 +386,42 @@ module _ (P : Name → Type 0) (me n : ℕ) where
 
   -- ---- backends
 
-  back_answer : (e : Option VhostErr) (x : Option TapText) (f : Option VhostErr) → WhereSome (λ y. All P (accepted_in me n y)) (back.back_answer e x f)
-  back_answer (Some e) x f = tt
+  abbrev AreTacit : Option Answer → Type 0
+  AreTacit o = WhereSome Tacit o
+
+  refused_by : (e : Option VhostErr) → WhereSome AreTacit (back.refused_by e)
+  refused_by None = tt
+  refused_by (Some e) = go (vhost_answer e) (vhost_tacit e)
+    where
+      go : (k : Option Answer) → WhereSome Tacit k → WhereSome AreTacit (option_map (λ x. Some x) k)
+      go None h = tt
+      go (Some y) h = h
+
+  back_answer : (e : Option VhostErr) (x : Option TapText) (f : Option VhostErr) → WhereSome AreTacit (back.back_answer e x f)
+  back_answer (Some e) x f = refused_by (Some e)
   back_answer None (Some r) f = tt
-  back_answer None None (Some f) = tt
-  back_answer None None None = tt
+  back_answer None None f = refused_by f
 
   sets_back : (w : World) (d : Doing) (actor seen vhost r file : ℕ) (x : Option TapText) (v : Vhost) (m : Contents) (y : Option Answer)
-      → WhereSome (λ z. All P (accepted_in me n z)) y → Tells d (back.sets_back w actor seen vhost r file x v m y)
+      → AreTacit y → Tells d (back.sets_back w actor seen vhost r file x v m y)
   sets_back w d actor seen vhost r file x v m (Some y) q = λ h k. q
   sets_back w d actor seen vhost r file x v m None q = λ h k. tt
 
-  unsets_back : (w : World) (d : Doing) (actor seen vhost r : ℕ) (v : Vhost) (m : Contents) (y : Option VhostErr) (file : Option ℕ)
+  unsets_back : (w : World) (d : Doing) (actor seen vhost r : ℕ) (v : Vhost) (m : Contents) (y : Option Answer) (file : Option ℕ) → AreTacit y
       → Tells d (back.unsets_back w actor seen vhost r v m y file)
-  unsets_back w d actor seen vhost r v m (Some y) file = λ h k. tt
-  unsets_back w d actor seen vhost r v m None None = λ h k. tt
-  unsets_back w d actor seen vhost r v m None (Some file) = λ h k. course_if Begun (r == 0) (Unbacked file) (Released file) tt tt
+  unsets_back w d actor seen vhost r v m (Some y) file q = λ h k. q
+  unsets_back w d actor seen vhost r v m None None q = λ h k. tt
+  unsets_back w d actor seen vhost r v m None (Some file) q = λ h k. course_if Begun (r == 0) (Unbacked file) (Released file) tt tt
 
   backs : (s : Setup) (w : World) (actor seen : ℕ) (d : Doing) (c : Command) → AllTell d (back.backs s w actor seen d c)
   backs s w actor seen (Backs x) (command.Backend vhost r None) = let d : Doing = Backs x in
       where_then (Tells d) (at w.vhosts vhost) _ (λ v e1. where_then (Tells d) (at w.guests v.guest) _
-      (λ g e2. where_only (Tells d) _ _ (λ y. unsets_back w d actor seen vhost r v g.memory (number_refusal r) (ring_at r v.settings).file)))
+      (λ g e2. unsetting (Tells d) s w actor seen x vhost r v g.memory
+      (λ told e3. unsets_back w d actor seen vhost r v g.memory told (ring_at r v.settings).file (where_some AreTacit _ told (refused_by (number_refusal r)) e3))))
   backs s w actor seen (Backs x) (command.Backend vhost r (Some file)) = let d : Doing = Backs x in
       where_then (Tells d) (at w.vhosts vhost) _ (λ v e1. where_then (Tells d) (at w.guests v.guest) _
-      (λ g e2. where_only (Tells d) _ (back.back_call s w actor seen x vhost r (Some file) v g.memory)
-      (λ y. sets_back w d actor seen vhost r file x v g.memory _ (back_answer _ x _))))
+      (λ g e2. setting (Tells d) s w actor seen x vhost r file v g.memory
+      (λ told e3. sets_back w d actor seen vhost r file x v g.memory told (where_some AreTacit _ told (back_answer _ x _) e3))))
   backs s w actor seen d c = tt
 
   drive_row : (s : Setup) (w : World) (actor seen : ℕ) (d : Doing) (c : Command) → AllTell d (rows.drive_row s w actor seen d c)
@@ -411,23 +441,25 @@ module _ (P : Name → Type 0) (me n : ℕ) where
 
   -- ---- turns
 
-  rx_after : (seen file : ℕ) (t : RxTurn) (f : Found) (o : Option End) → StoodAfter (rx_turns.rx_onward seen file t f o)
+  rx_after : (seen file : ℕ) (t : RxTurn) (f : Found) (o : Option TurnText) → StoodAfter (rx_turns.rx_onward seen file t f o)
   rx_after seen file t f None = tt
   rx_after seen file t f (Some e) = tt
 
   rx_steps_on : (w : World) (d : Doing) (actor seen vhost file : ℕ) (t : RxTurn) (v : Vhost) (m : Contents) → AllTell d (rx_turns.rx_steps_on w actor seen vhost file t v m)
   rx_steps_on w d actor seen vhost file t v m = where_then (Tells d) (rx_step hand.Off (rx_turns.rx_state t v m)) _
-      (λ made e. λ h k. rx_after seen file made.0.turn _ (rx_turns.rx_over made.0.turn.stage))
+      (λ made e. rx_stepped (Tells d) w actor seen vhost file t v made (λ f over e2 told. λ h k. rx_after seen file made.0.turn f over))
 
   tx_after : (seen file : ℕ) (t : TxTurn) (chains : List ChainText) (f : Found) (made : TxState × Act) → Adds chains made
       → All (λ m. (None ≡ Some m) ⊎ P m) (got_in chains) → (st : TxStage) → made.0.turn.stage ≡ st
-      → StoodAfter (tx_turns.tx_onward seen file made.0.turn (tx_turns.chains_after made.1 made.0.turn.held chains) f (tx_turns.tx_over st))
-  tx_after seen file t chains f made (Same e) h (tx.Ended x) is = subst (All P) (sym e) (none_waits (got_in chains) h)
-  tx_after seen file t chains f made (OneMore g give held e) h (tx.Ended x) is = absurd (cc (give, is))
-  tx_after seen file t chains f made (Same e) h st is =
+      → (over : Option TurnText) → rx_turns.over_told (tx_turns.tx_over st) ≡ Some over
+      → StoodAfter (tx_turns.tx_onward seen file made.0.turn (tx_turns.chains_after made.1 made.0.turn.held chains) f over)
+  tx_after seen file t chains f made (Same e) h st is (Some x) told = subst (All P) (sym e) (none_waits (got_in chains) h)
+  tx_after seen file t chains f made (OneMore g give held e) h (tx.Ended y) is (Some x) told = absurd (cc (give, is))
+  tx_after seen file t chains f made (OneMore g give held e) h st is (Some x) told = absurd (cc (told))
+  tx_after seen file t chains f made (Same e) h st is None told =
       let d : Doing = Transmits file made.0.turn (tx_turns.chains_after made.1 made.0.turn.held chains) in
       subst (All (λ m. (awaited me n d ≡ Some m) ⊎ P m)) (sym e) (told_on d (got_in chains) h)
-  tx_after seen file t chains f made (OneMore g give held e) h st is =
+  tx_after seen file t chains f made (OneMore g give held e) h st is None told =
       let d : Doing = Transmits file made.0.turn (tx_turns.chains_after made.1 made.0.turn.held chains) in
       let waits : awaited me n d ≡ Some g.name =
       ap (λ (x : TxStage). if is_giving x then option_map (λ (y : FrameValue). y.name) made.0.turn.held else None) give
@@ -438,8 +470,8 @@ module _ (P : Name → Type 0) (me n : ℕ) where
   tx_steps_on : (w : World) (d : Doing) (actor seen vhost file : ℕ) (t : TxTurn) (chains : List ChainText) (v : Vhost) (m : Contents) → is_giving t.stage ≡ false
       → (Stood d → All (λ x. (None ≡ Some x) ⊎ P x) (got_in chains)) → AllTell d (tx_turns.tx_steps_on w actor seen vhost file t chains v m)
   tx_steps_on w d actor seen vhost file t chains v m quiet before = where_then (Tells d) (tx_step (tx_turns.tx_state t v m)) _
-      (λ made e. λ h k. tx_after seen file t chains _ made
-      (where_some (Adds chains) (tx_step (tx_turns.tx_state t v m)) made (step_adds chains t.stage (tx_turns.tx_state t v m) quiet) e) (before h) made.0.turn.stage refl)
+      (λ made e. tx_made (Tells d) w actor seen vhost file chains v made (λ step over e2 end_. λ h k. tx_after seen file t chains _ made
+      (where_some (Adds chains) (tx_step (tx_turns.tx_state t v m)) made (step_adds chains t.stage (tx_turns.tx_state t v m) quiet) e) (before h) made.0.turn.stage refl over end_))
 
   begins : (w : World) (seen : ℕ) (c : Command) → AllTell Begun (tx_turns.turn_begins w me n seen c)
   begins w seen c = where_then (Tells Begun) (rx_turns.turn_on c) _ (λ t e1. where_then (Tells Begun) (at w.vhosts t.0) _ (λ v e2. where_then (Tells Begun) (at w.guests v.guest) _
@@ -469,15 +501,15 @@ module _ (P : Name → Type 0) (me n : ℕ) where
       turning (Tells d) w c _ (λ vhost v m. where_then (Tells d) (at w.files file) _
       (λ f e1. where_then (Tells d) (changed (Takes vhost) f) _ (λ g e2. where_then (Tells d) (rx_turns.front_frame s g) _
       (λ frame e3. where_then (Tells d) (rx_step (hand.Got frame) (rx_turns.rx_state t v m)) _
-      (λ made e. λ h k. rx_after seen file made.0.turn (found.Moved frame.name) (rx_turns.rx_over made.0.turn.stage))))))
+      (λ made e. rx_taken (Tells d) w actor seen vhost file v frame made (λ over told. λ h k. rx_after seen file made.0.turn _ over))))))
   hands s w actor seen d c = tt
 
   finds_nothing : (w : World) (actor seen : ℕ) (d : Doing) (c : Command) → AllTell d (tx_turns.turn_finds_none w actor seen d c)
   finds_nothing w actor seen (Receives file t) c = let d : Doing = Receives file t in
       turning (Tells d) w c _ (λ vhost v m. where_then (Tells d) (at w.files file) _
       (λ f e1. where_then (Tells d) (rx_step (hand.NotReady (front_place f)) (rx_turns.rx_state t v m)) _
-      (λ made e. where_only (Tells d) _ (rx_turns.rx_event w actor seen vhost file v NoFile (found.NotReady (front_place f)) made)
-      (λ x. λ h k. rx_after seen file made.0.turn (found.NotReady (front_place f)) (rx_turns.rx_over made.0.turn.stage)))))
+      (λ made e. rx_missed (Tells d) w actor seen vhost file v f made
+      (λ over told. λ h k. rx_after seen file made.0.turn _ over))))
   finds_nothing w actor seen d c = tt
 
   -- the frame that is given is the awaited one

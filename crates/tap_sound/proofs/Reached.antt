@@ -1,22 +1,22 @@
 -- What holds in each world that a run ends in.
-use Rattle.std.proofs.Common.{◌≡◌, ℕ, zero, suc, ◌+◌, ◌-◌, ◌^◌, ◌≤◌, List, [], ◌∷◌, map, Option, Some, None, inl, ⊎_elim, refl, sym, ap, ◌∙◌, subst, arith}
+use Rattle.std.proofs.Common.{◌≡◌, ℕ, zero, suc, ◌+◌, ◌-◌, ◌^◌, ◌≤◌, List, [], ◌∷◌, map, true, Option, Some, None, inl, ⊎_elim, refl, sym, ap, ◌∙◌, subst, arith}
 use Rattle.std.specs.Prelude.{option_map, slice_get, take}
 use Rattle.scen_text.specs.declared.scenario.Phase.{Phase}
 use Rattle.scen_text.specs.declared.scenario.Scenario.{Scenario}
 use Rattle.tap_world.specs.declared.event.Event.{Event}
 use Rattle.tap_world.specs.declared.event.Heard.{Heard}
 use Rattle.tap_world.specs.ByNumber.{at}
-use Rattle.tap_world.specs.Setup.{Declared, Setup, script_in, setup_of}
+use Rattle.tap_world.specs.Setup.{Declared, Numbered, Setup, script_in, setup_of}
 use Rattle.tap_world.specs.declared.line.Entry.{Entry}
 use Rattle.tap_world.specs.Line.{File, is_empty}
 use Rattle.tap_world.specs.World.{Actor, Doing, World, newest}
 use Rattle.tap_world.specs.World.Doing.{Begun, Placed, Purges}
 use Rattle.tap_world.specs.Step.{step}
 use Rattle.tap_world.specs.Runs.{IsRun, actors_from, begins, has_ended, new_file, opening, run, run_phases}
-use Rattle.tap_world.specs.Sound.{HasEpochs}
+use Rattle.tap_world.specs.Sound.{HasEpochs, IsOrdered}
 use Rattle.tap_world.specs.SoundActors.{CanBe}
-use Rattle.tap_sound.specs.Kept.{IsOrdered}
-use Rattle.tap_sound.specs.Reached.{HasPlaces, IsKept, IsReached}
+use Rattle.tap_sound.specs.Reached.{HasPlaces, IsKept}
+use Rattle.tap_sound.specs.Worlds.{IsWorldOf}
 use Rattle.tap_sound.proofs.Kit.{some_same, then_some}
 use Rattle.tap_sound.proofs.Kept.{epochs_are_kept, lines_are_kept, versions_are_kept}
 use Rattle.tap_sound.proofs.Claims.{claims_are_kept}
@@ -95,7 +95,7 @@ none_there i e h = cc (h)
 no_actor : (i : ℕ) (a : Actor) → slice_get {X = Actor} [] i ≡ Some a → ⊥
 no_actor i a h = cc (h)
 
-new_ordered : (d : Declared) → d.first ≤ 2 ^ 40 - 1 → IsOrdered (new_file d)
+pub new_ordered : (d : Declared) → d.first ≤ 2 ^ 40 - 1 → IsOrdered (new_file d)
 new_ordered d le = record { parts = tt; batch = omega arith; places = omega (arith, le) }
 
 pub opening_kept : (s : Setup) → HasPlaces s → IsKept (opening s)
@@ -134,7 +134,28 @@ opening_rested s places = (opening_kept s places, λ i a at_. absurd (no_actor i
 pub run_is_kept : (s : Scenario) (events : List (List Event)) (w : World) → HasPlaces (setup_of s) → IsRun s events w → IsKept w
 run_is_kept s events w places e = (phases_kept (setup_of s) 0 s.phases events (opening (setup_of s)) w e (opening_rested (setup_of s) places)).0
 
-pub reached_is_kept : (s : Scenario) (w : World) → HasPlaces (setup_of s) → IsReached s w → IsKept w
+pub reached_is_kept : (s : Scenario) (w : World) → HasPlaces (setup_of s) → IsWorldOf s w → IsKept w
 reached_is_kept s w places r =
-    let before = phases_kept (setup_of s) 0 (take r.ended s.phases) r.events (opening (setup_of s)) r.before r.is_before (opening_rested (setup_of s) places) in
-    phase_is_kept (setup_of s) r.so_far (begins r.ended r.phase r.before) w r.is (begins_kept r.ended r.phase r.before before.0 before.1)
+    let before = phases_kept (setup_of s) 0 (take r.ended s.phases) r.is_before.events (opening (setup_of s)) r.before r.is_before.is (opening_rested (setup_of s) places) in
+    ⊎_elim (λ is. subst IsKept (sym is) before.0)
+    (λ p. phase_is_kept (setup_of s) p.so_far (begins r.ended p.phase r.before) w p.is (begins_kept r.ended p.phase r.before before.0 before.1)) r.now
+
+-- ---- between phases
+
+pub phases_end : (s : Setup) (number : ℕ) (ps : List Phase) (es : List (List Event)) (w v : World) → run_phases s number ps es w ≡ Some v
+    → has_ended w ≡ true → has_ended v ≡ true
+phases_end s number [] [] w v e h = subst (λ (q : World). has_ended q ≡ true) (some_same w v e) h
+phases_end s number [] (d ∷ ds) w v e h = absurd (cc (e))
+phases_end s number (p ∷ ps) [] w v e h = absurd (cc (e))
+phases_end s number (p ∷ ps) (es ∷ more) w v e h =
+    let t = then_some (run s es (begins number p w)) _ v e in
+    let c = if_some (has_ended t.0) _ v t.2 in
+    phases_end s (number + 1) ps more t.0 v c.1 c.0
+
+-- where every command has ended none is under way
+pub none_comes : (w : World) (i : ℕ) (a : Actor) (c : Numbered) → has_ended w ≡ true → slice_get w.actors i ≡ Some a → slice_get a.script 0 ≡ Some c → ⊥
+none_comes w i a c ended found current_is = none_first a.script c (ended_each w.actors i a ended found) current_is
+  where
+    none_first : (cs : List Numbered) (c : Numbered) → cs ≡ [] → slice_get cs 0 ≡ Some c → ⊥
+    none_first [] c is h = cc (h)
+    none_first (d ∷ cs) c is h = cc (is)

@@ -1,7 +1,7 @@
 -- Steps of turns that leave the queue of their ring.
 use Rattle.std.proofs.Common.{◌≡◌, ℕ, Bool, true, false, Option, Some, None, refl, true≢false}
 use Rattle.std.specs.Prelude.{if◌then◌else◌, nat_lt}
-use Rattle.guest_mem.specs.Memory.{Contents}
+use Rattle.guest_mem.specs.Memory.{Contents, with_le16}
 use Rattle.vring_split.specs.declared.layout.Layout.{Layout}
 use Rattle.vhost_queue.specs.Publication.{noticed_at, with_field}
 use Rattle.tap_frame.specs.Frame.{FrameValue}
@@ -18,7 +18,7 @@ abbrev pub TxLeaves : TxState → TxState × Act → Type 0
 TxLeaves s made = (made.0.queue ≡ s.queue) × (made.0.memory.regions ≡ s.memory.regions)
 
 pub field_regions : (addr number : ℕ) (m : Contents) → (with_field addr number m).regions ≡ m.regions
-unfolding with_field
+unfolding with_le16
 field_regions addr number m = refl
 
 pub notice_regions : (l : Layout) (next : ℕ) (on : Bool) (m : Contents) → (noticed_at l next on m).regions ≡ m.regions

@@ -20,7 +20,7 @@ use Rattle.tap_world.specs.Effect.{Effect, OnGuests, OnVhosts, Onward, guests_af
 use Rattle.tap_world.specs.Effect.OnGuests.{NoGuest, OnGuest}
 use Rattle.tap_world.specs.Effect.OnVhosts.{NoVhost, OnVhost}
 use Rattle.tap_world.specs.Effect.Onward.{Goes}
-use Rattle.tap_world.specs.Sound.{EachVhost}
+use Rattle.tap_world.specs.Each.{EachVhost}
 use Rattle.tap_world.specs.SoundRings.{IsServed, Serves, StandsWith, TurnsAreHeld, is_about, serves}
 use Rattle.tap_sound.proofs.Kit.{some_same, where_some}
 use Rattle.tap_sound.proofs.RingSteps.{TxLeaves, tx_changes, tx_leaves}
@@ -160,8 +160,8 @@ tx_was d file q told v (inr is) = inr (ap serves is.0, is.1)
 
 -- an event on a ring
 abbrev pub IsOnRing : (s : Setup) (w : World) (me seen : ℕ) (d : Doing) (c : Command) (r : Effect) → Shape s w me seen d c r → Type 0
-IsOnRing s w me seen d c r (RxTurning vhost file q v g h made files f cis a b way step lv eq) = Unit {0}
-IsOnRing s w me seen d c r (TxTurning vhost file q told v g made cis a b way step eq) = Unit {0}
+IsOnRing s w me seen d c r (RxTurning vhost file q v g h made files f over cis a b way step lv told_ eq) = Unit {0}
+IsOnRing s w me seen d c r (TxTurning vhost file q told v g made st over cis a b way step end_ eq) = Unit {0}
 IsOnRing s w me seen d c r (BackDrives refusal vhost ring file v g is cis a b free eq) = Unit {0}
 IsOnRing s w me seen d c r (Calling vhost v g y is of a b call may eq) = Unit {0}
 IsOnRing s w me seen d c r shape = ⊥
@@ -211,5 +211,5 @@ left laws s w x u t turns served (Touching guest g m step v y at_ same is o f gs
   rings = no_rings s w x u t vs;
   guests = a_guest s w x u t guest m step g gs at_ same;
 }
-left laws s w x u t turns served (RxTurning vhost file q v g h made files f cis a b way step lv eq) nt = absurd (nt tt)
-left laws s w x u t turns served (TxTurning vhost file q told v g made cis a b way step eq) nt = absurd (nt tt)
+left laws s w x u t turns served (RxTurning vhost file q v g h made files f over cis a b way step lv told_ eq) nt = absurd (nt tt)
+left laws s w x u t turns served (TxTurning vhost file q told v g made st over cis a b way step end_ eq) nt = absurd (nt tt)

@@ -26,10 +26,11 @@ use Rattle.tap_world.specs.Effect.{OnFiles, files_after}
 use Rattle.tap_world.specs.Effect.OnFiles.{NoFile, OnFile}
 use Rattle.tap_world.specs.Scripts.{is_kind, next_kind, shrink_next}
 use Rattle.tap_world.specs.Step.{row, step}
+use Rattle.tap_world.specs.Each.{EachActor, EachFile}
 use Rattle.tap_world.specs.SoundActors.{CanBe, can_be}
-use Rattle.tap_world.specs.Sound.{EachActor, EachFile, HasRoom, HasSeen, table_capacity, has_left}
+use Rattle.tap_world.specs.Sound.{HasRoom, HasSeen, IsOrdered, table_capacity, has_left}
 use Rattle.tap_world.specs.SoundTable.{Agreed, AgreesWithTable, commanded, expected, of_table, writing}
-use Rattle.tap_sound.specs.Kept.{IsOrdered, leaves_sizes}
+use Rattle.tap_sound.specs.Kept.{leaves_sizes}
 use Rattle.tap_ground.specs.Options.{◌>>=◌}
 use Rattle.tap_sound.proofs.Kit.{only_some, some_same, where_some}
 use Rattle.tap_sound.proofs.Kept.{effect_files, effect_ops, room_is_kept, same_table, step_keeps}
@@ -90,11 +91,9 @@ shrunk w file places cuts c f here e =
 
 other_before : (before after_ : ℕ) (f : File) → claimed f ≤ freed f + f.capacity → HasRoom before f → HasRoom after_ f
 other_before before after_ f le h = record {
-  parts = h.parts;
+  ordered = h.ordered;
   fates = h.fates;
-  batch = h.batch;
   ring = let m : f.capacity ≤ max f.capacity after_ = omega arith in omega (arith, le, m);
-  places = h.places;
 }
 
 publish_room : (s : Setup) (w : World) (x : Event) (u : World) (t : IsStep s w x u) (y : Op) → x.kind ≡ event.Publish → HadRoom s w → SizesBy t.actor.doing y
@@ -132,18 +131,16 @@ record RoomFor (before : ℕ) (f : File) : Type 0 where
 
 room_for : (before : ℕ) (f : File) → f.capacity ≡ before → HasRoom before f → RoomFor before f
 room_for before f same h = record {
-  order = record { parts = h.parts; batch = h.batch; places = h.places };
+  order = h.ordered;
   fates = h.fates;
   ring = let le = h.ring in let m : max f.capacity before ≤ before = omega (arith, same) in omega (arith, le, m);
 }
 
 has_room : (before : ℕ) (f : File) → RoomFor before f → HasRoom before f
 has_room before f h = record {
-  parts = h.order.parts;
+  ordered = h.order;
   fates = h.fates;
-  batch = h.order.batch;
   ring = let le = h.ring in let m : before ≤ max f.capacity before = omega arith in omega (arith, le, m);
-  places = h.order.places;
 }
 
 sized : (before capacity : ℕ) (f g : File) → changed (Sizes capacity) f ≡ Some g → RoomFor before f → RoomFor before g

@@ -95,8 +95,8 @@ publishes s w actor d c can = where_then (Publishes d) (op_of s c) _
 
 teaches : (w : World) (d : Doing) → WhereSome (Publishes d) (tx_turns.teaches w d)
 teaches w (Teaches file t told f) = where_only (Publishes (Teaches file t told f)) (is_none w.writer)
-    (record (only (Goes (newest w + 1) (Transmits file t told) (found.Version (newest w + 1))) w) { ops = op.Learn file (hash f.made) ∷ [] })
-    (λ b. (op.Learn file (hash f.made), refl, refl, tt))
+    (record (only (Goes (newest w + 1) (Transmits file t told) (found.Version (newest w + 1))) w) { ops = op.Learn file f.flow ∷ [] })
+    (λ b. (op.Learn file f.flow, refl, refl, tt))
 teaches w d = tt
 
 publishes_back : (w : World) (d : Doing) (c : Command) → WhereSome (Publishes d) (back.publishes_back w d c)

@@ -18,7 +18,7 @@ use Rattle.vring_turns.specs.Ring.{Gathered, Made, fetches, found, first_positio
 use Rattle.vring_turns.specs.ReceiveImage.{copies_in, need_of}
 use Rattle.vring_turns.specs.TransmitBytes.{bytes_of_chain, refusal_of}
 use Rattle.vring_turns.specs.RxTurn as rt
-use Rattle.vring_turns.specs.RxTurn.{RxState, RxTurn}
+use Rattle.vring_turns.specs.RxTurn.{RxState}
 use Rattle.vring_turns.specs.TxTurn as tt_
 use Rattle.vring_turns.specs.TxTurn.{TxState, TxTurn}
 use Rattle.tap_world.specs.declared.event.EventKind.{EventKind}

@@ -12,7 +12,7 @@ use Rattle.tap_world.specs.Guests.{Guest, Vhost, is_ring}
 use Rattle.tap_world.specs.Setup.{Numbered, Setup}
 use Rattle.tap_world.specs.World.{Actor, Doing, World, current}
 use Rattle.tap_world.specs.World.Doing.{Given, Receives, Teaches, Transmits}
-use Rattle.tap_world.specs.Sound.{EachVhost, EachActor}
+use Rattle.tap_world.specs.Each.{EachActor, EachVhost}
 use Rattle.tap_world.specs.SoundRings.{HasRings, IsRing, IsServed, Serves, StandsWith, is_about}
 use Rattle.tap_sound.proofs.Taken.{IsStep, both}
 use Rattle.tap_sound.proofs.Turns.{about, is_below}

@@ -17,7 +17,7 @@ use Rattle.tap_world.specs.World.{Actor, Doing, World, current}
 use Rattle.tap_world.specs.World.Doing.{Begun, Given, Receives, Teaches, Transmits}
 use Rattle.tap_world.specs.Effect.{Ending, Onward, actor_after, ended}
 use Rattle.tap_world.specs.Effect.Onward.{Ends, Goes, Stays}
-use Rattle.tap_world.specs.Sound.{EachVhost}
+use Rattle.tap_world.specs.Each.{EachVhost}
 use Rattle.tap_world.specs.SoundRings.{HasRings, IsRing, IsServed, Serves, StandsWith, is_about, serves}
 use Rattle.tap_sound.proofs.Kit.{some_same}
 use Rattle.tap_sound.proofs.Scripts.{effect_actors}

@@ -17,10 +17,10 @@ use Rattle.tap_world.specs.declared.event.EventKind.{EventKind}
 use Rattle.tap_world.specs.ByNumber.{at}
 use Rattle.tap_world.specs.Frames.{Front, bad_in, ether_in, least_in, sent_bytes, sent_front}
 use Rattle.vhost_dev.specs.Settings.{hdr_of}
-use Rattle.tap_world.specs.Setup.{Setup, op_of}
+use Rattle.tap_world.specs.Setup.{Setup, op_of, frame_of}
 use Rattle.tap_world.specs.Line.{File, has_batch, is_full, is_gone, is_over, is_spent, first_that, front_place, in_batch, in_ring, last_that}
 use Rattle.tap_world.specs.LineSteps.{ready_front, changed}
-use Rattle.tap_world.specs.Guests.{Vhost, is_free, is_ring, turn_of, Guest}
+use Rattle.tap_world.specs.Guests.{Vhost, is_free, is_ring, turn_of, Guest, is_free_for}
 use Rattle.tap_steer.specs.Rules.{refuse}
 use Rattle.tap_world.specs.World.{Actor, Doing, World, name_of, newest, table}
 use Rattle.tap_world.specs.World.Doing.{Backs, Begun, Changes, Given, Hosts, Learns, Opened, Opens, Placed, Purges, Reads, Receives, Resizes, Routed, Shrinks, Teaches, Transmits, Withdrawn, Withdraws}
@@ -28,11 +28,10 @@ use Rattle.tap_world.specs.Effect.{Effect, only}
 use Rattle.tap_flow_key.specs.FlowKey.{hash}
 use Rattle.tap_world.specs.Effect.Onward.{Ends, Goes}
 use Rattle.tap_sound.proofs.Kit.{WhereSome, either, where_if, where_only, where_then}
-use Rattle.tap_sound.proofs.Steps.{held, or_else}
+use Rattle.tap_sound.proofs.Steps.{held, or_else, tx_made, rx_missed, rx_stepped, rx_taken}
 use Rattle.tap_frame.specs.declared.reading.BadFrame.{BadFrame}
 use Rattle.tap_ledger.specs.declared.error.TapErr.{TapErr}
 use Rattle.tap_steer.specs.declared.selection.Select.{Select}
-use Rattle.tap_world.specs.Effect.OnFiles.{NoFile}
 use Rattle.tap_world.specs.Scripts.{is_kind, next_kind, hand_next, kind_number, purge_next, read_next, rx_next_kind, send_next, shrink_next, tx_next_kind}
 use Rattle.vring_turns.specs.declared.stage.TxStage.{TxStage}
 use Rattle.tap_world.specs.Sound.{holds}
@@ -77,6 +76,11 @@ ends d is = (ap holds is, ap holds_turn is)
 goes : (d e : Doing) → d ≡ Begun → holds e ≡ false → holds_turn e ≡ false → serves e ≡ false → ((v : Vhost) → StandsWith e v)
     → (holds d ≡ false) × (holds e ≡ false) × (holds_turn e ≡ holds_turn d) × (serves e ≡ serves d) × ((v : Vhost) → StandsWith d v → StandsWith e v)
 goes d e is a b x y = (ap holds is, a, b ∙ ap holds_turn (sym is), x ∙ ap serves (sym is), λ v h. y v)
+
+-- what a row gives, by its equation
+by_row : (P : Effect → Type 0) (o : Option Effect) → ((r : Effect) → o ≡ Some r → P r) → WhereSome P o
+by_row P None h = tt
+by_row P (Some r) h = h r refl
 
 -- ---- which commands can be at a row
 
@@ -254,14 +258,9 @@ publishes s w me seen d c = own_op s w me seen d c
 
 teaches : (s : Setup) (w : World) (me seen : ℕ) (d : Doing) (c : Command) → AllShaped s w me seen d c (tx_turns.teaches w d)
 teaches s w me seen (Teaches file t told f) c = where_only (Shape s w me seen (Teaches file t told f) c) (is_none w.writer)
-    (record (only (Goes (newest w + 1) (Transmits file t told) (found.Version (newest w + 1))) w) { ops = op.Learn file (hash f.made) ∷ [] })
-    (λ b. Learning file (hash f.made) refl refl refl refl refl (none_of w.writer b) (refl, refl, refl, refl, λ v h. h))
+    (record (only (Goes (newest w + 1) (Transmits file t told) (found.Version (newest w + 1))) w) { ops = op.Learn file f.flow ∷ [] })
+    (λ b. Learning file f.flow refl refl refl refl refl (none_of w.writer b) (refl, refl, refl, refl, λ v h. h))
 teaches s w me seen d c = tt
-
--- what a row gives, by its equation
-by_row : (P : Effect → Type 0) (o : Option Effect) → ((r : Effect) → o ≡ Some r → P r) → WhereSome P o
-by_row P None h = tt
-by_row P (Some r) h = h r refl
 
 publish_row : (s : Setup) (w : World) (me seen : ℕ) (d : Doing) (c : Command) → AllShaped s w me seen d c (rows.publish_row s w me d c)
 publish_row s w me seen d (command.Backend vhost r file) = held (Shape s w me seen d (command.Backend vhost r file)) w me _
@@ -314,7 +313,8 @@ module _ (s : Setup) (w : World) (me seen : ℕ) (c : Command) where
   leaves : (d : Doing) → AllShaped s w me seen d c (ring.leaves s w seen d)
   leaves (Reads file room front) = where_then (Shape s w me seen (Reads file room front) c) (at w.files file) _
       (λ f e1. where_then (Shape s w me seen (Reads file room front) c) (first_that in_batch f.line) _
-      (λ i e2. where_then (Shape s w me seen (Reads file room front) c) (slice_get f.line i) _ (λ x e3. Quiet refl tt refl refl refl (refl, refl))))
+      (λ i e2. where_then (Shape s w me seen (Reads file room front) c) (slice_get f.line i) _
+      (λ x e3. where_then (Shape s w me seen (Reads file room front) c) (frame_of s x.name x.len) _ (λ y e4. Quiet refl tt refl refl refl (refl, refl)))))
   leaves (Purges file version) = where_then (Shape s w me seen (Purges file version) c) (at w.files file) _
       (λ f e1. where_then (Shape s w me seen (Purges file version) c) (ring.name_at f.line (first_that in_batch f.line)) _ (λ x e2. Quiet refl tt refl refl refl tt))
   leaves d = tt
@@ -356,7 +356,7 @@ calls s w me seen d c is = let P = Shape s w me seen d c in
 backs : (s : Setup) (w : World) (me seen : ℕ) (d : Doing) (c : Command) → AllShaped s w me seen d c (back.backs s w me seen d c)
 backs s w me seen (Backs x) (command.Backend vhost r file) = let P = Shape s w me seen (Backs x) (command.Backend vhost r file) in
     where_then P (at w.vhosts vhost) _ (λ v e1. where_then P (at w.guests v.guest) _
-    (λ g e2. where_only P _ (back.back_call s w me seen x vhost r file v g.memory) (λ y. BackDrives x vhost r file v g refl refl e1 e2 y refl)))
+    (λ g e2. where_if P (is_free_for me r v) (back.back_call s w me seen x vhost r file v g.memory) (λ y. by_row P (back.back_call s w me seen x vhost r file v g.memory) (λ z e3. BackDrives x vhost r file v g refl refl e1 e2 y e3))))
 backs s w me seen d c = tt
 
 drive_row : (s : Setup) (w : World) (me seen : ℕ) (d : Doing) (c : Command) → AllShaped s w me seen d c (rows.drive_row s w me seen d c)
@@ -387,12 +387,14 @@ rx_change vhost file t st = tt
 rx_steps_on : (s : Setup) (w : World) (me seen : ℕ) (d : Doing) (vhost file : ℕ) (t : RxTurn) (v : Vhost) (g : Guest) → at w.vhosts vhost ≡ Some v → at w.guests v.guest ≡ Some g
     → RxWay me d file t v → AllShaped s w me seen d (command.RxTurn vhost) (rx_turns.rx_steps_on w me seen vhost file t v g.memory)
 rx_steps_on s w me seen d vhost file t v g a b way = where_then (Shape s w me seen d (command.RxTurn vhost)) (rx_step hand.Off (rx_turns.rx_state t v g.memory)) _
-    (λ made e. RxTurning vhost file t v g hand.Off made _ _ refl a b way e (rx_change vhost file t t.stage) refl)
+    (λ made e. rx_stepped (Shape s w me seen d (command.RxTurn vhost)) w me seen vhost file t v made
+    (λ f over e2 told. RxTurning vhost file t v g hand.Off made _ f over refl a b way e (rx_change vhost file t t.stage) told refl))
 
 tx_steps_on : (s : Setup) (w : World) (me seen : ℕ) (d : Doing) (vhost file : ℕ) (t : TxTurn) (told : List ChainText) (v : Vhost) (g : Guest) → at w.vhosts vhost ≡ Some v
     → at w.guests v.guest ≡ Some g → TxWay d file t told v → AllShaped s w me seen d (command.TxTurn vhost) (tx_turns.tx_steps_on w me seen vhost file t told v g.memory)
 tx_steps_on s w me seen d vhost file t told v g a b way = where_then (Shape s w me seen d (command.TxTurn vhost)) (tx_step (tx_turns.tx_state t v g.memory)) _
-    (λ made e. TxTurning vhost file t told v g made refl a b way e refl)
+    (λ made e. tx_made (Shape s w me seen d (command.TxTurn vhost)) w me seen vhost file told v made
+    (λ step over e2 end_. TxTurning vhost file t told v g made step over refl a b way e end_ refl))
 
 begins : (s : Setup) (w : World) (me n seen : ℕ) (c : Command) → AllShaped s w me seen Begun c (tx_turns.turn_begins w me n seen c)
 begins s w me n seen (command.RxTurn vhost) = let P = Shape s w me seen Begun (command.RxTurn vhost) in
@@ -426,7 +428,8 @@ hands s w me seen (Receives file t) (command.RxTurn vhost) can = let P = Shape s
     where_then P (at w.vhosts vhost) _ (λ v a. where_then P (at w.guests v.guest) _ (λ g b. where_then P (at w.files file) _
     (λ f e1. where_then P (changed (Takes vhost) f) _ (λ h e2. where_then P (rx_turns.front_frame s h) _
     (λ frame e3. where_then P (rx_step (hand.Got frame) (rx_turns.rx_state t v g.memory)) _
-    (λ made e. RxTurning vhost file t v g (hand.Got frame) made _ _ refl a b (inl refl) e tt refl))))))
+    (λ made e. rx_taken P w me seen vhost file v frame made
+    (λ over told. RxTurning vhost file t v g (hand.Got frame) made _ _ over refl a b (inl refl) e tt told refl)))))))
 hands s w me seen (Receives file t) c can = absurd (true≢false (sym can))
 hands s w me seen d c can = tt
 
@@ -434,8 +437,8 @@ finds_nothing : (s : Setup) (w : World) (me seen : ℕ) (d : Doing) (c : Command
 finds_nothing s w me seen (Receives file t) (command.RxTurn vhost) can = let P = Shape s w me seen (Receives file t) (command.RxTurn vhost) in
     where_then P (at w.vhosts vhost) _ (λ v a. where_then P (at w.guests v.guest) _ (λ g b. where_then P (at w.files file) _
     (λ f e1. where_then P (rx_step (hand.NotReady (front_place f)) (rx_turns.rx_state t v g.memory)) _
-    (λ made e. where_only P _ (rx_turns.rx_event w me seen vhost file v NoFile (found.NotReady (front_place f)) made)
-    (λ x. RxTurning vhost file t v g (hand.NotReady (front_place f)) made _ _ refl a b (inl refl) e tt refl)))))
+    (λ made e. rx_missed P w me seen vhost file v f made
+    (λ over told. RxTurning vhost file t v g (hand.NotReady (front_place f)) made _ _ over refl a b (inl refl) e tt told refl)))))
 finds_nothing s w me seen (Receives file t) c can = absurd (true≢false (sym can))
 finds_nothing s w me seen d c can = tt
 
@@ -458,7 +461,7 @@ gives s w me seen (Transmits file t told) (command.TxTurn vhost) next can = let 
       v = v;
       g = g;
       made = made;
-      frame = f;
+      frame = tx_turns.with_host f;
       seen = seen;
       f = found.Moved f.name;
       doing = refl;

@@ -40,6 +40,7 @@ use Rattle.tap_world.specs.StepTurns as rx_turns
 use Rattle.tap_world.specs.StepTransmits as tx_turns
 use Rattle.tap_world.specs.Sound.{holds}
 use Rattle.tap_world.specs.SoundRings.{StandsWith, holds_turn, serves}
+use Rattle.tap_trace.specs.declared.turn.TurnText.{TurnText}
 
 -- a change of a file that leaves gate, owner and capacity
 abbrev pub Leaves : OnFiles → Type 0
@@ -126,9 +127,9 @@ pub data Shape (s : Setup) (w : World) (me seen : ℕ) (d : Doing) (c : Command)
       → r.writer ≡ w.writer → r.onward ≡ Ends v y → Shape s w me seen d c r
   RxTurning : (vhost file : ℕ) (t : RxTurn) (v : Vhost) (g : Guest) (h : Hand) (made : RxState × Act) (files : OnFiles) (f : Found) (over : Option TurnText)
       → c ≡ command.RxTurn vhost → at w.vhosts vhost ≡ Some v → at w.guests v.guest ≡ Some g → RxWay me d file t v
-      → rx_step h (rx_turns.rx_state t v g.memory) ≡ Some made → rx_turns.over_told (rx_turns.rx_over made.0.turn.stage) ≡ Some over → Leaves files
+      → rx_step h (rx_turns.rx_state t v g.memory) ≡ Some made → Leaves files → rx_turns.over_told (rx_turns.rx_over made.0.turn.stage) ≡ Some over
       → rx_turns.rx_effect w me seen vhost file v files f over made ≡ r → Shape s w me seen d c r
-  TxTurning : (vhost file : ℕ) (t : TxTurn) (told : List ChainText) (v : Vhost) (g : Guest) (made : TxState × Act) (k : Kind) (over : Option TurnText)
+  TxTurning : (vhost file : ℕ) (t : TxTurn) (told : List ChainText) (v : Vhost) (g : Guest) (made : TxState × Act) (step : Kind) (over : Option TurnText)
       → c ≡ command.TxTurn vhost → at w.vhosts vhost ≡ Some v → at w.guests v.guest ≡ Some g → TxWay d file t told v
-      → tx_step (tx_turns.tx_state t v g.memory) ≡ Some made
-      → rx_turns.over_told (tx_turns.tx_over made.0.turn.stage) ≡ Some over → tx_turns.tx_effect w me seen vhost file told v k over made ≡ r → Shape s w me seen d c r
+      → tx_step (tx_turns.tx_state t v g.memory) ≡ Some made → rx_turns.over_told (tx_turns.tx_over made.0.turn.stage) ≡ Some over
+      → tx_turns.tx_effect w me seen vhost file told v step over made ≡ r → Shape s w me seen d c r

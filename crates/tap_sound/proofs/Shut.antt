@@ -23,7 +23,8 @@ use Rattle.tap_world.specs.Scripts.{is_kind, next_kind, purge_next}
 use Rattle.tap_world.specs.Step.{row, step}
 use Rattle.tap_world.specs.StepRing as ring
 use Rattle.tap_world.specs.StepTransmits as tx_turns
-use Rattle.tap_world.specs.Sound.{EachFile, IsEmptyWhenShut, is_purging}
+use Rattle.tap_world.specs.Each.{EachFile}
+use Rattle.tap_world.specs.Sound.{IsEmptyWhenShut, is_purging}
 use Rattle.std.proofs.lemmas.Bool.Decides.{eqb_tells}
 use Rattle.tap_sound.proofs.Kit.{WhereSome, either, only_some, some_same, then_some, where_some, where_then}
 use Rattle.tap_sound.proofs.Entries.{all_at, batch_is, filled_keeps, none_is, ring_rank}

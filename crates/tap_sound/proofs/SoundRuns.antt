@@ -1,5 +1,5 @@
 -- Every world that a run reaches is sound.
-use Rattle.std.proofs.Common.{◌≡◌, ℕ, zero, suc, ◌+◌, ◌-◌, ◌^◌, ◌≤◌, List, [], ◌∷◌, map, Option, Some, None, refl, sym, ap, ◌∙◌, subst, arith, ◌<◌, length, get_or, Bool, true, false, true≢false}
+use Rattle.std.proofs.Common.{◌≡◌, ℕ, zero, suc, ◌+◌, ◌-◌, ◌^◌, ◌≤◌, List, [], ◌∷◌, map, Option, Some, None, ⊎_elim, refl, sym, ap, ◌∙◌, subst, arith, ◌<◌, length, get_or, Bool, true, false, true≢false}
 use Rattle.std.specs.Prelude.{option_map, slice_get, take, is_some, ◌||◌, ◌&&◌, if◌then◌else◌, ◌==◌}
 use Rattle.scen_text.specs.declared.scenario.Phase.{Phase}
 use Rattle.scen_text.specs.declared.scenario.Scenario.{Scenario}
@@ -12,12 +12,12 @@ use Rattle.tap_world.specs.World.Doing.{Begun}
 use Rattle.tap_world.specs.Step.{step}
 use Rattle.tap_world.specs.Runs.{IsRun, actors_from, begins, has_ended, new_file, opening, run, run_phases}
 use Rattle.tap_world.specs.Sound.{IsSound, HasRoom, table_capacity, holds, is_serving, is_receiving}
-use Rattle.tap_sound.specs.Reached.{HasPlaces, IsKept, IsReached}
+use Rattle.tap_sound.specs.Reached.{HasPlaces, IsKept}
+use Rattle.tap_sound.specs.Worlds.{IsWorldOf}
 use Rattle.tap_sound.proofs.Kit.{some_same, then_some}
 use Rattle.tap_sound.proofs.Scripts.{ended_each}
 use Rattle.tap_sound.proofs.Whole.{begun_rest, run_rests}
 use Rattle.tap_sound.proofs.Taken.{if_some}
-use Rattle.tap_sound.proofs.NamesKept.{names_are_kept}
 use Rattle.tap_sound.proofs.TurnRings.{RingLaws}
 use Rattle.std.specs.Option.{option_map_or}
 use Rattle.std.specs.List.{list_any}
@@ -32,9 +32,9 @@ use Rattle.vhost_dev.specs.Lists.{BeginOrdered}
 use Rattle.vhost_dev.specs.Settings.{first_ring, first_settings, ring_at}
 use Rattle.tap_world.specs.Guests.{Guest, Vhost, new_guest, new_vhost, turn_of}
 use Rattle.tap_world.specs.SoundRings.{is_about, HasRings, IsActor, IsRing, IsServed, holds_turn, serves}
-use Rattle.tap_world.specs.SoundTable.{has_of, on_side}
+use Rattle.tap_world.specs.SoundTable.{HasTable, has_of, on_side}
 use Rattle.tap_sound.specs.SoundRuns.{HasGuests}
-use Rattle.tap_sound.proofs.Reached.{IsStill, declared}
+use Rattle.tap_sound.proofs.Reached.{IsStill, declared, new_ordered}
 use Rattle.tap_sound.proofs.Soundness.{soundness_is_kept}
 use Rattle.tap_sound.proofs.Agreeing.{agreed_of}
 use Rattle.tap_sound.proofs.Turned.{is_at, itself}
@@ -97,56 +97,65 @@ unfolding lib.Count.ones
 one_is_power = refl
 
 first_is : BeginOrdered → (b : Bool) (g : Guest) → IsRing g (first_ring b)
-first_is order true g = record { lists = order true; begun = refl; size = record { power = one_is_power; most = omega arith }; good = λ e. absurd (true≢false (sym e)) }
-first_is order false g = record { lists = order false; begun = refl; size = record { power = one_is_power; most = omega arith }; good = λ e. absurd (true≢false (sym e)) }
+first_is order true g = record { lists = order true; begun = ([], refl); size = record { power = one_is_power; most = omega arith }; good = λ e. absurd (true≢false (sym e)) }
+first_is order false g = record { lists = order false; begun = ([], refl); size = record { power = one_is_power; most = omega arith }; good = λ e. absurd (true≢false (sym e)) }
 
 nobody : (i : ℕ) (a : Actor) → slice_get {X = Actor} [] i ≡ Some a → ⊥
 nobody i a h = cc (h)
 
 new_room : (d : Declared) (before : ℕ) → d.first ≤ 2 ^ 40 - 1 → HasRoom before (new_file d)
-new_room d before le = record { parts = tt; fates = tt; batch = omega arith; ring = omega arith; places = omega (arith, le) }
+new_room d before le = record { ordered = new_ordered d le; fates = tt; ring = omega arith }
 
 -- ---- the opening
+
+opening_tabled : (s : Setup) → HasTable s (opening s)
+opening_tabled s = record {
+  agrees = λ file f at_.
+      let d = declared s.files file f at_ in
+      ap has_of (sym d.2) ∙ ap (λ (g : table_files.File). agreed_of g)
+      (sym (first_file (map cap s.files) s.flows (map (λ p. p.1) s.programs) file ∙ (file_first s.files file d.0 d.1).0));
+  known = λ file f at_.
+      let d = declared s.files file f at_ in
+      subst (λ (n : ℕ). file < n) (sym (first_many (map cap s.files) s.flows (map (λ p. p.1) s.programs))) (file_first s.files file d.0 d.1).1;
+  backends = λ vhost v at_ q n.
+      let d = a_vhost s.vhosts vhost v at_ in
+      let mine = ap (λ (y : Vhost). (on_side q y.settings).file) (sym d.2) ∙ side_none q in
+      let theirs = ap (backer q) (first_file (map cap s.files) s.flows (map (λ p. p.1) s.programs) n) ∙ no_backer (map cap s.files) q n in
+      ((λ e. absurd (none_is _ n mine e)), (λ e. absurd (none_is _ vhost theirs e)));
+  found = tt;
+}
 
 opening_sound : BeginOrdered → (s : Setup) → HasPlaces s → HasGuests s → IsSound s (opening s)
 opening_sound order s places guests =
     let kept = reached.opening_kept s places in
     record {
       names = names.opening_kept s;
-      room = λ file f at_. let d = declared s.files file f at_ in subst (HasRoom (table_capacity file (table s (opening s)))) d.2 (new_room d.0 _ (places file d.0 d.1));
+      lines = λ file f at_. let d = declared s.files file f at_ in subst (HasRoom (table_capacity file (table s (opening s)))) d.2 (new_room d.0 _ (places file d.0 d.1));
       claims = kept.claims;
       epochs = kept.epochs;
       shut = kept.shut;
-      agrees = λ file f at_.
-          let d = declared s.files file f at_ in
-          ap has_of (sym d.2) ∙ ap (λ (g : table_files.File). agreed_of g)
-          (sym (first_file (map cap s.files) s.flows (map (λ p. p.1) s.programs) file ∙ (file_first s.files file d.0 d.1).0));
-      known = λ file f at_.
-          let d = declared s.files file f at_ in
-          subst (λ (n : ℕ). file < n) (sym (first_many (map cap s.files) s.flows (map (λ p. p.1) s.programs))) (file_first s.files file d.0 d.1).1;
-      backends = λ vhost v at_ q n.
-          let d = a_vhost s.vhosts vhost v at_ in
-          let mine = ap (λ (y : Vhost). (on_side q y.settings).file) (sym d.2) ∙ side_none q in
-          let theirs = ap (backer q) (first_file (map cap s.files) s.flows (map (λ p. p.1) s.programs) n) ∙ no_backer (map cap s.files) q n in
-          ((λ e. absurd (none_is _ n mine e)), (λ e. absurd (none_is _ vhost theirs e)));
-      found = tt;
+      tabled = opening_tabled s;
       hand = λ file f at_ vhost e. let d = declared s.files file f at_ in absurd (none_is _ vhost (ap (λ (y : File). y.hand) (sym d.2)) e);
-      rings = λ vhost v at_.
-          let d = a_vhost s.vhosts vhost v at_ in
-          let g = a_guest s.guests d.0 (guests vhost d.0 d.1) in
-          subst (HasRings (opening s) vhost) d.2 (g.0, g.1, first_is order true g.0, first_is order false g.0);
-      served = λ vhost v at_.
-          let d = a_vhost s.vhosts vhost v at_ in
-          subst (IsServed (opening s) vhost) d.2 (record {
-            idle = λ ring below none. first_idle ring;
-            backed = λ ring i a got sv. absurd (nobody i a got);
-            stands = λ ring i a got sv. absurd (nobody i a got);
-          });
-      seen = kept.seen;
-      stand = kept.stand;
-      writer = λ i a got. absurd (nobody i a got);
-      turns = λ vhost v at_ ring i a below got. absurd (nobody i a got);
-      holders = (tt, λ vhost v at_. let d = a_vhost s.vhosts vhost v at_ in subst (λ (y : Vhost). IsActor (opening s) y.rx_turn × IsActor (opening s) y.tx_turn) d.2 (tt, tt));
+      rings = record {
+        rings = λ vhost v at_.
+            let d = a_vhost s.vhosts vhost v at_ in
+            let g = a_guest s.guests d.0 (guests vhost d.0 d.1) in
+            subst (HasRings (opening s) vhost) d.2 (g.0, g.1, first_is order true g.0, first_is order false g.0);
+        served = λ vhost v at_.
+            let d = a_vhost s.vhosts vhost v at_ in
+            subst (IsServed (opening s) vhost) d.2 (record {
+              idle = λ ring below none. first_idle ring;
+              backed = λ ring i a got sv. absurd (nobody i a got);
+              stands = λ ring i a got sv. absurd (nobody i a got);
+            });
+      };
+      versions = kept.seen;
+      actors = record {
+        stand = kept.stand;
+        writer = λ i a got. absurd (nobody i a got);
+        turns = λ vhost v at_ ring i a below got. absurd (nobody i a got);
+        holders = (tt, λ vhost v at_. let d = a_vhost s.vhosts vhost v at_ in subst (λ (y : Vhost). IsActor (opening s) y.rx_turn × IsActor (opening s) y.tx_turn) d.2 (tt, tt));
+      };
     }
   where
     first_idle : (ring : ℕ) → IsIdle (ring_at ring first_settings).queue.positions
@@ -180,31 +189,37 @@ none_serves vhost file n (x ∷ xs) h =
 begins_sound : (s : Setup) (number : ℕ) (p : Phase) (w : World) → IsSound s w → IsStill w → IsSound s (begins number p w)
 begins_sound s number p w h still = record {
   names = names.begins_kept number p w h.names;
-  room = h.room;
+  lines = h.lines;
   claims = kept.claims;
   epochs = h.epochs;
   shut = kept.shut;
-  agrees = fits.agrees;
-  known = h.known;
-  backends = onto_backs v Begun None (table s w) w.vhosts (is_none_held v free) (into_backs w Begun None (table s w) w.vhosts (is_none_held w free) h.backends);
-  found = fits.found;
+  tabled = record {
+    agrees = fits.agrees;
+    known = h.tabled.known;
+    backends = onto_backs v Begun None (table s w) w.vhosts (is_none_held v free) (into_backs w Begun None (table s w) w.vhosts (is_none_held w free) h.tabled.backends);
+    found = fits.found;
+  };
   hand = λ file f at_ vhost e.
       let k = h.hand file f at_ vhost e in
       absurd (true≢false (sym k.3 ∙ none_serves vhost file k.1 w.actors still));
-  rings = h.rings;
-  served = λ vhost r at_.
-      let k = h.served vhost r at_ in
-      record {
-        idle = λ ring below none. k.idle ring below (λ i a got sv. true≢false (sym sv.0 ∙ ap serves (still i a got)));
-        backed = λ ring i a got sv. absurd (true≢false (sym sv.0 ∙ ap serves (new_begun p (newest w) 0 p.actors i a got)));
-        stands = λ ring i a got sv. absurd (true≢false (sym sv.0 ∙ ap serves (new_begun p (newest w) 0 p.actors i a got)));
-      };
-  seen = kept.seen;
-  stand = kept.stand;
-  writer = λ i a got. ap holds (new_begun p (newest w) 0 p.actors i a got) ∙ sym (ap (is_at i) free);
-  turns = λ vhost r at_ ring i a below got.
-      ap (λ (d : Doing). holds_turn d && is_about vhost ring (current a.script)) (new_begun p (newest w) 0 p.actors i a got) ∙ sym (ap (is_at i) (turn_free vhost r at_ ring below));
-  holders = (subst (IsActor v) (sym free) tt, λ vhost r at_. (subst (IsActor v) (sym (turn_free vhost r at_ 0 (omega arith))) tt, subst (IsActor v) (sym (turn_free vhost r at_ 1 (omega arith))) tt));
+  rings = record {
+    rings = h.rings.rings;
+    served = λ vhost r at_.
+        let k = h.rings.served vhost r at_ in
+        record {
+          idle = λ ring below none. k.idle ring below (λ i a got sv. true≢false (sym sv.0 ∙ ap serves (still i a got)));
+          backed = λ ring i a got sv. absurd (true≢false (sym sv.0 ∙ ap serves (new_begun p (newest w) 0 p.actors i a got)));
+          stands = λ ring i a got sv. absurd (true≢false (sym sv.0 ∙ ap serves (new_begun p (newest w) 0 p.actors i a got)));
+        };
+  };
+  versions = kept.seen;
+  actors = record {
+    stand = kept.stand;
+    writer = λ i a got. ap holds (new_begun p (newest w) 0 p.actors i a got) ∙ sym (ap (is_at i) free);
+    turns = λ vhost r at_ ring i a below got.
+        ap (λ (d : Doing). holds_turn d && is_about vhost ring (current a.script)) (new_begun p (newest w) 0 p.actors i a got) ∙ sym (ap (is_at i) (turn_free vhost r at_ ring below));
+    holders = (subst (IsActor v) (sym free) tt, λ vhost r at_. (subst (IsActor v) (sym (turn_free vhost r at_ 0 (omega arith))) tt, subst (IsActor v) (sym (turn_free vhost r at_ 1 (omega arith))) tt));
+  };
 }
   where
     v : World
@@ -213,27 +228,27 @@ begins_sound s number p w h still = record {
     kept : IsKept v
     kept = reached.begins_kept number p w (record {
       epochs = h.epochs;
-      lines = λ file f at_. let r = h.room file f at_ in record { parts = r.parts; batch = r.batch; places = r.places };
+      lines = λ file f at_. (h.lines file f at_).ordered;
       claims = h.claims;
       shut = h.shut;
-      seen = h.seen;
-      stand = h.stand;
+      seen = h.versions;
+      stand = h.actors.stand;
     }) still
 
     free : w.writer ≡ None
-    free = still_free w w.writer still h.holders.0 (λ i a got. sym (ap holds (still i a got)) ∙ h.writer i a got)
+    free = still_free w w.writer still h.actors.holders.0 (λ i a got. sym (ap holds (still i a got)) ∙ h.actors.writer i a got)
 
     turn_free : (vhost : ℕ) (r : Vhost) → at w.vhosts vhost ≡ Some r → (ring : ℕ) → ring < 2 → turn_of ring r ≡ None
     turn_free vhost r at_ ring below = still_free w (turn_of ring r) still (there (ring == 0))
-        (λ i a got. sym (ap (λ (d : Doing). holds_turn d && is_about vhost ring (current a.script)) (still i a got)) ∙ h.turns vhost r at_ ring i a below got)
+        (λ i a got. sym (ap (λ (d : Doing). holds_turn d && is_about vhost ring (current a.script)) (still i a got)) ∙ h.actors.turns vhost r at_ ring i a below got)
       where
         there : (b : Bool) → IsActor w (if b then r.rx_turn else r.tx_turn)
-        there true = (h.holders.1 vhost r at_).0
-        there false = (h.holders.1 vhost r at_).1
+        there true = (h.actors.holders.1 vhost r at_).0
+        there false = (h.actors.holders.1 vhost r at_).1
 
     fits : FitsWorld s v
     fits = onto v Begun None (table s w) w.files (is_none_held v free)
-        (into w Begun None (table s w) w.files (is_none_held w free) (record { agrees = h.agrees; known = h.known; found = h.found }))
+        (into w Begun None (table s w) w.files (is_none_held w free) (record { agrees = h.tabled.agrees; known = h.tabled.known; found = h.tabled.found }))
 
 -- ---- runs
 
@@ -262,8 +277,9 @@ pub run_is_sound : RingLaws → BeginOrdered → (s : Scenario) (events : List (
 run_is_sound laws order s events w places guests e =
     (phases_sound laws (setup_of s) 0 s.phases events (opening (setup_of s)) w e (opening_sound order (setup_of s) places guests, still_first (setup_of s))).0
 
-pub reached_is_sound : RingLaws → BeginOrdered → (s : Scenario) (w : World) → HasPlaces (setup_of s) → HasGuests (setup_of s) → IsReached s w → IsSound (setup_of s) w
+pub reached_is_sound : RingLaws → BeginOrdered → (s : Scenario) (w : World) → HasPlaces (setup_of s) → HasGuests (setup_of s) → IsWorldOf s w → IsSound (setup_of s) w
 reached_is_sound laws order s w places guests r =
-    let before = phases_sound laws (setup_of s) 0 (take r.ended s.phases) r.events (opening (setup_of s)) r.before r.is_before
+    let before = phases_sound laws (setup_of s) 0 (take r.ended s.phases) r.is_before.events (opening (setup_of s)) r.before r.is_before.is
     (opening_sound order (setup_of s) places guests, still_first (setup_of s)) in
-    run_sound laws (setup_of s) r.so_far (begins r.ended r.phase r.before) w r.is (begins_sound (setup_of s) r.ended r.phase r.before before.0 before.1)
+    ⊎_elim (λ is. subst (IsSound (setup_of s)) (sym is) before.0)
+    (λ p. run_sound laws (setup_of s) p.so_far (begins r.ended p.phase r.before) w p.is (begins_sound (setup_of s) r.ended p.phase r.before before.0 before.1)) r.now

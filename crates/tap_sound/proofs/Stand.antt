@@ -10,7 +10,7 @@ use Rattle.tap_world.specs.World.Doing.{Begun}
 use Rattle.tap_world.specs.Effect.{Onward, actor_after}
 use Rattle.tap_world.specs.Effect.Onward.{Ends, Goes, Stays}
 use Rattle.tap_world.specs.Step.{step}
-use Rattle.tap_world.specs.Sound.{EachActor}
+use Rattle.tap_world.specs.Each.{EachActor}
 use Rattle.tap_world.specs.SoundActors.{CanBe, can_be, is_begun}
 use Rattle.tap_sound.proofs.Kit.{where_some}
 use Rattle.tap_sound.proofs.Scripts.{effect_actors}

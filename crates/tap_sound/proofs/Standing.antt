@@ -8,7 +8,6 @@ use Rattle.tap_ledger.specs.declared.hand.Hand.TheVariants as hand
 use Rattle.tap_steer.specs.declared.operation.Op.{Op}
 use Rattle.tap_steer.specs.Select.{learns}
 use Rattle.vhost_dev.specs.declared.error.VhostErr.{VhostErr}
-use Rattle.vring_turns.specs.declared.end.End.{End}
 use Rattle.vring_turns.specs.RxTurn.{RxTurn, rx_step}
 use Rattle.vring_turns.specs.TxTurn.{TxTurn, tx_step}
 use Rattle.scen_words.specs.declared.command.Command.{Command}
@@ -21,11 +20,10 @@ use Rattle.tap_world.specs.declared.event.EventKind.TheVariants as event
 use Rattle.tap_world.specs.declared.event.Found.{Found}
 use Rattle.tap_world.specs.ByNumber.{at}
 use Rattle.tap_world.specs.Frames.{Front}
-use Rattle.vhost_dev.specs.Refusals.{number_refusal}
 use Rattle.vhost_dev.specs.Settings.{ring_at}
 use Rattle.std.proofs.Common.{true≢false}
 use Rattle.tap_frame.specs.declared.header.Hdr.{Hdr}
-use Rattle.tap_world.specs.Setup.{Setup, place_of}
+use Rattle.tap_world.specs.Setup.{Setup, place_of, frame_of}
 use Rattle.tap_world.specs.Line.{File, first_that, front_place, in_batch, in_ring, last_that}
 use Rattle.tap_world.specs.LineSteps.{ready_front}
 use Rattle.tap_world.specs.Guests.{Vhost, is_free, is_ring, turn_of}
@@ -34,7 +32,6 @@ use Rattle.tap_steer.specs.Rules.{refuse}
 use Rattle.tap_world.specs.World.{Actor, Doing, World, name_of, newest, table}
 use Rattle.tap_world.specs.World.Doing.{Backed, Backs, Begun, Changes, Disowned, Given, Hosts, Learns, Opened, Opens, Owns, Placed, Purges, Reads, Receives, Released, Resizes, Routed, Shrinks, Teaches, Transmits, Unbacked, Withdrawn, Withdraws}
 use Rattle.tap_world.specs.Effect.{Effect, Onward, only}
-use Rattle.tap_flow_key.specs.FlowKey.{hash}
 use Rattle.tap_steer.specs.declared.operation.Op.TheVariants as op
 use Rattle.tap_trace.specs.declared.answer.Answer.TheVariants as answer
 use Rattle.tap_world.specs.declared.event.Found.TheVariants as found
@@ -47,7 +44,7 @@ use Rattle.tap_world.specs.StepTable as tables
 use Rattle.tap_world.specs.StepTurns as rx_turns
 use Rattle.tap_world.specs.StepTransmits as tx_turns
 use Rattle.tap_sound.proofs.Kit.{WhereSome, where_if, where_only, where_then}
-use Rattle.tap_sound.proofs.Steps.{held, or_else, own, owning, publication, turning}
+use Rattle.tap_sound.proofs.Steps.{held, or_else, own, owning, publication, turning, not_refused, tx_made, rx_missed, rx_stepped, rx_taken, setting, unsetting}
 use Rattle.tap_frame.specs.declared.reading.BadFrame.{BadFrame}
 use Rattle.tap_ledger.specs.declared.error.TapErr.{TapErr}
 use Rattle.tap_steer.specs.declared.selection.Select.{Select}
@@ -57,7 +54,6 @@ use Rattle.tap_steer.specs.Table.{Table}
 use Rattle.tap_world.specs.Frames.{bad_in, ether_in, least_in, sent_bytes, sent_front}
 use Rattle.tap_world.specs.LineSteps.{changed}
 use Rattle.tap_world.specs.LineSteps.Change.{Takes}
-use Rattle.tap_world.specs.Effect.OnFiles.{NoFile}
 use Rattle.vring_turns.specs.RxTurn.{rx_begun}
 use Rattle.vring_turns.specs.TxTurn.{tx_begun}
 use Rattle.vhost_dev.specs.Settings.{hdr_of}
@@ -66,6 +62,7 @@ use Rattle.tap_steer.specs.declared.operation.TheConstants.{IFF_ATTACH_QUEUE}
 use Rattle.tap_steer.specs.Table.{file_at, is_set}
 use Rattle.tap_world.specs.SoundActors.{can_be, is_rx_turn, is_tx_turn, resizes, resizes_to, sets}
 use Rattle.tap_sound.proofs.Taken.{both}
+use Rattle.tap_trace.specs.declared.turn.TurnText.{TurnText}
 
 -- ---- what a row leads to
 
@@ -185,7 +182,7 @@ publishes s w actor d c h = own (To c) s w actor d c (λ x. own_published w x d 
 
 teaches : (w : World) (d : Doing) (c : Command) → can_be d c ≡ true → AllLead c (tx_turns.teaches w d)
 teaches w (Teaches file t told f) c h = where_only (To c) (is_none w.writer)
-    (record (only (Goes (newest w + 1) (Transmits file t told) (found.Version (newest w + 1))) w) { ops = op.Learn file (hash f.made) ∷ [] }) (λ b. h)
+    (record (only (Goes (newest w + 1) (Transmits file t told) (found.Version (newest w + 1))) w) { ops = op.Learn file f.flow ∷ [] }) (λ b. h)
 teaches w d c h = tt
 
 publishes_back : (w : World) (d : Doing) (c : Command) → can_be d c ≡ true → AllLead c (back.publishes_back w d c)
@@ -248,7 +245,7 @@ moves w d c = tt
 
 leaves : (s : Setup) (w : World) (seen : ℕ) (d : Doing) (c : Command) → AllLead c (ring.leaves s w seen d)
 leaves s w seen (Reads file room front) c = where_then (To c) (at w.files file) _ (λ f e1. where_then (To c) (first_that in_batch f.line) _
-    (λ i e2. where_then (To c) (slice_get f.line i) _ (λ x e3. tt)))
+    (λ i e2. where_then (To c) (slice_get f.line i) _ (λ x e3. where_then (To c) (frame_of s x.name x.len) _ (λ y e4. tt))))
 leaves s w seen (Purges file version) c = where_then (To c) (at w.files file) _ (λ f e1. where_then (To c) (ring.name_at f.line (first_that in_batch f.line)) _ (λ x e2. tt))
 leaves s w seen d c = tt
 
@@ -287,7 +284,7 @@ sets_back : (w : World) (actor seen vhost r file : ℕ) (x : Option TapText) (v 
 sets_back w actor seen vhost r file x v m (Some a) h = tt
 sets_back w actor seen vhost r file x v m None h = and_both (file == file) (is_ring r) (itself file) (h refl)
 
-unsets_back : (w : World) (actor seen vhost r : ℕ) (v : Vhost) (m : Contents) (a : Option VhostErr) (file : Option ℕ) → (a ≡ None → is_ring r ≡ true)
+unsets_back : (w : World) (actor seen vhost r : ℕ) (v : Vhost) (m : Contents) (a : Option Answer) (file : Option ℕ) → (a ≡ None → is_ring r ≡ true)
     → To (command.Backend vhost r None) (back.unsets_back w actor seen vhost r v m a file)
 unsets_back w actor seen vhost r v m (Some a) file h = tt
 unsets_back w actor seen vhost r v m None None h = tt
@@ -297,19 +294,22 @@ unsets_back w actor seen vhost r v m None (Some file) h = go (r == 0) refl
     go true is = and_both (is_ring r) (r == 0) (h refl) is
     go false is = and_both (is_ring r) (not (r == 0)) (h refl) (ap not is)
 
-pub answered : (o : Option VhostErr) (x : Option TapText) (u : Option VhostErr) → back.back_answer o x u ≡ None → (o ≡ None) × (x ≡ None)
+pub answered : (o : Option VhostErr) (x : Option TapText) (u : Option VhostErr) → back.back_answer o x u ≡ Some None → (o ≡ None) × (x ≡ None)
 answered None None u e = (refl, refl)
 answered None (Some x) u e = absurd (cc (e))
-answered (Some e) x u h = absurd (cc (h))
+answered (Some e) x u h = absurd (some_refused e (not_refused (Some e) h))
+  where
+    some_refused : (e : VhostErr) → Some e ≡ None → ⊥
+    some_refused e q = cc (q)
 
 backs : (s : Setup) (w : World) (actor seen : ℕ) (d : Doing) (c : Command) → AllLead c (back.backs s w actor seen d c)
 backs s w actor seen (Backs x) (command.Backend vhost r None) = where_then (To (command.Backend vhost r None)) (at w.vhosts vhost) _ (λ v e1. where_then (To (command.Backend vhost r None)) (at w.guests v.guest) _
-    (λ g e2. where_only (To (command.Backend vhost r None)) _ _
-    (λ y. unsets_back w actor seen vhost r v g.memory (number_refusal r) (ring_at r v.settings).file (λ h. ring_there r (first_passed _ _ _ h)))))
+    (λ g e2. unsetting (To (command.Backend vhost r None)) s w actor seen x vhost r v g.memory
+    (λ told e3. unsets_back w actor seen vhost r v g.memory told (ring_at r v.settings).file (λ h. ring_there r (first_passed _ _ _ (not_refused _ (e3 ∙ ap (λ (o : Option Answer). Some o) h)))))))
 backs s w actor seen (Backs x) (command.Backend vhost r (Some file)) = where_then (To (command.Backend vhost r (Some file))) (at w.vhosts vhost) _
     (λ v e1. where_then (To (command.Backend vhost r (Some file))) (at w.guests v.guest) _
-    (λ g e2. where_only (To (command.Backend vhost r (Some file))) _ (back.sets_back w actor seen vhost r file x v g.memory _)
-    (λ y. sets_back w actor seen vhost r file x v g.memory _ (λ h. ring_there r (first_passed _ _ _ (answered _ _ _ h).0)))))
+    (λ g e2. setting (To (command.Backend vhost r (Some file))) s w actor seen x vhost r file v g.memory
+    (λ told e3. sets_back w actor seen vhost r file x v g.memory told (λ h. ring_there r (first_passed _ _ _ (answered _ _ _ (e3 ∙ ap (λ (o : Option Answer). Some o) h)).0)))))
 backs s w actor seen d c = tt
 
 drive_row : (s : Setup) (w : World) (actor seen : ℕ) (d : Doing) (c : Command) → AllLead c (rows.drive_row s w actor seen d c)
@@ -329,22 +329,22 @@ finds_off w seen d c = tt
 
 -- ---- turns
 
-rx_leads : (seen file : ℕ) (t : RxTurn) (f : Found) (o : Option End) (c : Command) → is_rx_turn c ≡ true → Leads c (rx_turns.rx_onward seen file t f o)
+rx_leads : (seen file : ℕ) (t : RxTurn) (f : Found) (o : Option TurnText) (c : Command) → is_rx_turn c ≡ true → Leads c (rx_turns.rx_onward seen file t f o)
 rx_leads seen file t f None c h = h
 rx_leads seen file t f (Some e) c h = tt
 
-tx_leads : (seen file : ℕ) (t : TxTurn) (told : List ChainText) (f : Found) (o : Option End) (c : Command) → is_tx_turn c ≡ true → Leads c (tx_turns.tx_onward seen file t told f o)
+tx_leads : (seen file : ℕ) (t : TxTurn) (told : List ChainText) (f : Found) (o : Option TurnText) (c : Command) → is_tx_turn c ≡ true → Leads c (tx_turns.tx_onward seen file t told f o)
 tx_leads seen file t told f None c h = h
 tx_leads seen file t told f (Some e) c h = tt
 
 rx_steps_on : (w : World) (actor seen vhost file : ℕ) (t : RxTurn) (v : Vhost) (m : Contents) (c : Command) → is_rx_turn c ≡ true → AllLead c (rx_turns.rx_steps_on w actor seen vhost file t v m)
 rx_steps_on w actor seen vhost file t v m c h = where_then (To c) (rx_step hand.Off (rx_turns.rx_state t v m)) _
-    (λ made e. rx_leads seen file made.0.turn _ (rx_turns.rx_over made.0.turn.stage) c h)
+    (λ made e. rx_stepped (To c) w actor seen vhost file t v made (λ f over e2 told. rx_leads seen file made.0.turn f over c h))
 
 tx_steps_on : (w : World) (actor seen vhost file : ℕ) (t : TxTurn) (told : List ChainText) (v : Vhost) (m : Contents) (c : Command) → is_tx_turn c ≡ true
     → AllLead c (tx_turns.tx_steps_on w actor seen vhost file t told v m)
 tx_steps_on w actor seen vhost file t told v m c h = where_then (To c) (tx_step (tx_turns.tx_state t v m)) _
-    (λ made x. tx_leads seen file made.0.turn _ _ (tx_turns.tx_over made.0.turn.stage) c h)
+    (λ made x. tx_made (To c) w actor seen vhost file told v made (λ step over e2 end_. tx_leads seen file made.0.turn _ _ over c h))
 
 begins : (w : World) (actor n seen : ℕ) (c : Command) → AllLead c (tx_turns.turn_begins w actor n seen c)
 begins w actor n seen (command.RxTurn vhost) = where_then (To (command.RxTurn vhost)) (at w.vhosts vhost) _ (λ v e2. where_then (To (command.RxTurn vhost)) (at w.guests v.guest) _
@@ -369,14 +369,15 @@ turns w actor n seen d c h = turning (To c) w c (tx_turns.goes_on w actor seen d
 hands : (s : Setup) (w : World) (actor seen : ℕ) (d : Doing) (c : Command) → can_be d c ≡ true → AllLead c (tx_turns.hands s w actor seen d c)
 hands s w actor seen (Receives file t) c h = turning (To c) w c _ (λ vhost v m. where_then (To c) (at w.files file) _
     (λ f e1. where_then (To c) (changed (Takes vhost) f) _ (λ g e2. where_then (To c) (rx_turns.front_frame s g) _
-    (λ frame e3. where_then (To c) (rx_step (hand.Got frame) (rx_turns.rx_state t v m)) _ (λ made e. rx_leads seen file made.0.turn _ (rx_turns.rx_over made.0.turn.stage) c h)))))
+    (λ frame e3. where_then (To c) (rx_step (hand.Got frame) (rx_turns.rx_state t v m)) _
+    (λ made e. rx_taken (To c) w actor seen vhost file v frame made (λ over told. rx_leads seen file made.0.turn _ over c h))))))
 hands s w actor seen d c h = tt
 
 finds_nothing : (w : World) (actor seen : ℕ) (d : Doing) (c : Command) → can_be d c ≡ true → AllLead c (tx_turns.turn_finds_none w actor seen d c)
 finds_nothing w actor seen (Receives file t) c h = turning (To c) w c _ (λ vhost v m. where_then (To c) (at w.files file) _
     (λ f e1. where_then (To c) (rx_step (hand.NotReady (front_place f)) (rx_turns.rx_state t v m)) _
-    (λ made e. where_only (To c) _ (rx_turns.rx_event w actor seen vhost file v NoFile (found.NotReady (front_place f)) made)
-    (λ x. rx_leads seen file made.0.turn _ (rx_turns.rx_over made.0.turn.stage) c h))))
+    (λ made e. rx_missed (To c) w actor seen vhost file v f made
+    (λ over told. rx_leads seen file made.0.turn _ over c h))))
 finds_nothing w actor seen d c h = tt
 
 gives : (w : World) (seen : ℕ) (d : Doing) (c : Command) → can_be d c ≡ true → AllLead c (tx_turns.hosts_of_turn w seen d c)

@@ -8,12 +8,13 @@ use Rattle.tap_world.specs.World.Doing.{Backs, Begun, Opened, Opens, Purges, Res
 use Rattle.tap_world.specs.Effect.{OnFiles, Onward, ended}
 use Rattle.tap_world.specs.Effect.OnFiles.{NoFile, OnFile}
 use Rattle.tap_world.specs.LineSteps.Change.{Cuts, Reopens, Shuts, Sizes}
-use Rattle.tap_world.specs.Sound.{EachActor, WriterIsHeld, holds}
+use Rattle.tap_world.specs.Each.{EachActor}
+use Rattle.tap_world.specs.Sound.{WriterIsHeld, holds}
 use Rattle.tap_world.specs.SoundActors.{can_be}
 use Rattle.tap_world.specs.SoundTable.{Agreed, IsAsFound, expected}
 use Rattle.tap_sound.proofs.Agreeing.{goes_on, reopening, shutting, sizing, steady}
 use Rattle.tap_sound.proofs.Publishing.{publishing, withdrawing}
-use Rattle.tap_sound.proofs.Shapes.{Alike, IsLast, Shape}
+use Rattle.tap_sound.proofs.Shapes.{Shape}
 use Rattle.tap_sound.proofs.Shapes.Shape.{Giving, Approves, BackApproves, BackDrives, BackPublishes, Calling, Learning, Owning, Publishing, Quiet, Reopening, RxTurning, Shutting, Sizing, Touching, Trims, TxTurning, Withdrawing}
 use Rattle.tap_sound.proofs.TableFiles.{learn_same}
 use Rattle.tap_sound.proofs.Taken.{IsStep, when_settled}
@@ -25,8 +26,6 @@ use Rattle.tap_steer.specs.declared.operation.Op.TheVariants as op
 use Rattle.scen_words.specs.declared.command.Command.TheVariants as command
 use Rattle.tap_world.specs.StepTable as tables
 use Rattle.tap_sound.proofs.Shapes as shapes
-use Rattle.tap_world.specs.StepTurns as rx_turns
-use Rattle.tap_world.specs.StepTransmits as tx_turns
 
 -- an event whose command holds the writer neither before nor after it
 free_event : (s : Setup) (w : World) (x : Event) (u : World) (t : IsStep s w x u) (o : OnFiles) → View w t.between t.actor.doing (doing_after t.effect.onward t.actor.doing) t.now.command
@@ -99,13 +98,13 @@ fits_between s w x u t can (Calling vhost v g y is of a b call may eq) view_ h =
     free_event s w x u t NoFile view_ (ap holds is) (ap holds (doing_on s w x u t _ eq t.actor.doing)) (ops_on s w x u t _ eq) (on_files s w x u t _ eq) tt h
 fits_between s w x u t can (Touching guest g m step v y at_ same is o f gs vs wr on) view_ h =
     free_event s w x u t NoFile view_ (ap holds is) (ap (λ (q : Onward). holds (doing_after q t.actor.doing)) on) o f tt h
-fits_between s w x u t can (RxTurning vhost file q v g hd made files f cis a b way step leaves eq) view_ h =
+fits_between s w x u t can (RxTurning vhost file q v g hd made files f over cis a b way step leaves told_ eq) view_ h =
     free_event s w x u t files view_ (rx_free x.actor t.actor.doing file q v way)
-    (ap holds (doing_on s w x u t _ eq t.actor.doing) ∙ rx_holds t.actor.seen file made.0.turn f t.actor.doing (rx_turns.rx_over made.0.turn.stage))
+    (ap holds (doing_on s w x u t _ eq t.actor.doing) ∙ rx_holds t.actor.seen file made.0.turn f t.actor.doing over)
     (ops_on s w x u t _ eq) (on_files s w x u t _ eq) leaves h
-fits_between s w x u t can (TxTurning vhost file q told v g made cis a b way step eq) view_ h =
+fits_between s w x u t can (TxTurning vhost file q told v g made st over cis a b way step end_ eq) view_ h =
     free_event s w x u t NoFile view_ (tx_free t.actor.doing file q told v way)
-    (ap holds (doing_on s w x u t _ eq t.actor.doing) ∙ tx_holds t.actor.seen file made.0.turn _ _ t.actor.doing (tx_turns.tx_over made.0.turn.stage))
+    (ap holds (doing_on s w x u t _ eq t.actor.doing) ∙ tx_holds t.actor.seen file made.0.turn _ _ t.actor.doing over)
     (ops_on s w x u t _ eq) (on_files s w x u t _ eq) tt h
 
 -- at the end of a purge its file has what the table has

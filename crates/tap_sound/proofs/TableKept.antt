@@ -9,7 +9,6 @@ use Rattle.tap_steer.specs.Table.{Table, file_at, is_set}
 use Rattle.tap_steer.specs.Rules.{refuse}
 use Rattle.tap_steer.specs.After.{after, after_all}
 use Rattle.tap_steer.specs.Select as steer
-use Rattle.vhost_dev.specs.declared.error.VhostErr.{VhostErr}
 use Rattle.vhost_dev.specs.Refusals.{number_refusal, ready_refusal}
 use Rattle.vhost_dev.specs.Settings.{ring_at}
 use Rattle.scen_words.specs.declared.command.Command.{Command}
@@ -32,13 +31,12 @@ use Rattle.tap_world.specs.StepTable as tables
 use Rattle.tap_world.specs.Sound.{holds}
 use Rattle.tap_world.specs.SoundActors.{can_be}
 use Rattle.tap_world.specs.SoundTable.{Agreed, IsAsFound, asked_by, commanded, expected, writing}
-use Rattle.tap_sound.proofs.Kit.{some_same}
+use Rattle.tap_sound.proofs.Kit.{some_same, then_some}
 use Rattle.tap_sound.proofs.Agreeing.{Files, Fits, disowning, goes_on, owning, steady}
 use Rattle.tap_sound.proofs.Kept.{effect_files, effect_ops}
 use Rattle.tap_sound.proofs.Publishing.{equal, sets_rx, sets_tx, unsets_rx, unsets_tx}
 use Rattle.tap_sound.proofs.Shapes as shapes
-use Rattle.tap_sound.proofs.Shapes.{Alike, IsLast, Shape}
-use Rattle.tap_sound.proofs.Shapes.Shape.{Giving, Approves, BackApproves, BackDrives, BackPublishes, Calling, Learning, Owning, Publishing, Quiet, Reopening, RxTurning, Shutting, Sizing, Touching, Trims, TxTurning, Withdrawing}
+use Rattle.tap_sound.proofs.Shapes.{Alike}
 use Rattle.tap_sound.proofs.Standing.{answered, first_passed, ring_there}
 use Rattle.tap_sound.proofs.TableFiles.{back_finds, detach_finds}
 use Rattle.tap_sound.proofs.Taken.{IsStep, both}
@@ -271,7 +269,7 @@ module _ (s : Setup) (w : World) (x : Event) (u : World) (t : IsStep s w x u) wh
       let v = within w t.between (Backs None) e c (at_view w t.between (Backs None) (Backs None) _ e c refl is view_) refl hold in
       passes_still (Backs None) e (Some c) (Some c) [] v.0 v.1 none still (λ f. goes_on (Backs None) e (Some c) (Some c) (table s w) w.files same (found_ f.found) f) h
 
-  unsets : (vhost ring : ℕ) (v : Vhost) (m : Contents) (a : Option VhostErr) (file : Option ℕ)
+  unsets : (vhost ring : ℕ) (v : Vhost) (m : Contents) (a : Option Answer) (file : Option ℕ)
       → View w t.between (Backs None) (doing_after t.effect.onward (Backs None)) (command.Backend vhost ring None)
       → back.unsets_back w x.actor t.actor.seen vhost ring v m a file ≡ t.effect → FitsWorld s w → FitsWorld s t.between
   unsets vhost ring v m (Some a) file view_ eq h = back_ends None (command.Backend vhost ring None) view_ (doing_on _ eq (Backs None)) (ops_on _ eq) (on_files _ eq) h
@@ -292,12 +290,15 @@ module _ (s : Setup) (w : World) (x : Event) (u : World) (t : IsStep s w x u) wh
 
   pub drives : (refusal : Option TapText) (vhost ring : ℕ) (file : Option ℕ) (v : Vhost) (m : Contents) → (file ≡ None → refusal ≡ None)
       → View w t.between (Backs refusal) (doing_after t.effect.onward (Backs refusal)) (command.Backend vhost ring file)
-      → back.back_call s w x.actor t.actor.seen refusal vhost ring file v m ≡ t.effect → FitsWorld s w → FitsWorld s t.between
-  drives None vhost ring None v m no_ view_ eq h = unsets vhost ring v m (number_refusal ring) (ring_at ring v.settings).file view_ eq h
+      → back.back_call s w x.actor t.actor.seen refusal vhost ring file v m ≡ Some t.effect → FitsWorld s w → FitsWorld s t.between
+  drives None vhost ring None v m no_ view_ eq h =
+      let b = then_some (back.refused_by (number_refusal ring)) _ t.effect eq in
+      unsets vhost ring v m b.0 (ring_at ring v.settings).file view_ (some_same _ t.effect b.2) h
   drives (Some r) vhost ring None v m no_ view_ eq h = absurd (cc (no_ refl))
   drives refusal vhost ring (Some file) v m no_ view_ eq h =
-      sets vhost ring file refusal v m (back.back_answer (ready_refusal ring m v.settings) refusal (back.unfit_for (steer.shape_of (table s w) file) v.settings))
-      (λ e. let a = answered _ _ _ e in (ring_there ring (first_passed _ _ _ a.0), a.1)) view_ eq h
+      let b = then_some (back.back_answer (ready_refusal ring m v.settings) refusal (back.unfit_for (steer.shape_of (table s w) file) v.settings)) _ t.effect eq in
+      sets vhost ring file refusal v m b.0
+      (λ e. let a = answered _ _ _ (b.1 ∙ ap (λ (o : Option Answer). Some o) e) in (ring_there ring (first_passed _ _ _ a.0), a.1)) view_ (some_same _ t.effect b.2) h
 
 pub asked_is : (file capacity : ℕ) (c : Command) → can_be (Resizes file capacity) c ≡ true → asked_by (Some c) ≡ capacity
 asked_is file capacity (command.Resize other k) e = equal k capacity (both _ _ e).1

@@ -5,9 +5,10 @@ use Rattle.tap_world.specs.declared.event.Heard.{Heard}
 use Rattle.tap_world.specs.Setup.{Setup}
 use Rattle.tap_world.specs.World.{World}
 use Rattle.tap_world.specs.Step.{step}
-use Rattle.tap_world.specs.Sound.{EachActor, WriterIsHeld}
+use Rattle.tap_world.specs.Each.{EachActor}
+use Rattle.tap_world.specs.SoundTable.{HasTable}
+use Rattle.tap_world.specs.Sound.{WriterIsHeld}
 use Rattle.tap_world.specs.SoundActors.{CanBe}
-use Rattle.tap_sound.specs.Tabled.{HasTable}
 use Rattle.tap_sound.proofs.BackerEvents.{backings_are_kept}
 use Rattle.tap_sound.proofs.Held.{can_here, shape_here}
 use Rattle.tap_sound.proofs.TableEvents.{fits_are_kept}

@@ -5,8 +5,6 @@ use Rattle.guest_mem.specs.Memory.{Contents}
 use Rattle.tap_ledger.specs.declared.act.Act.{Act}
 use Rattle.tap_ledger.specs.declared.fate.Cause.{Cause}
 use Rattle.tap_ledger.specs.declared.hand.Hand.TheVariants as hand
-use Rattle.vhost_dev.specs.declared.error.VhostErr.{VhostErr}
-use Rattle.vring_turns.specs.declared.end.End.{End}
 use Rattle.vring_turns.specs.declared.stage.RxStage.{RxStage}
 use Rattle.vring_turns.specs.declared.stage.RxStage.TheVariants as rx
 use Rattle.vring_turns.specs.RxTurn.{RxState, RxTurn, rx_step}
@@ -20,10 +18,9 @@ use Rattle.tap_world.specs.declared.event.EventKind.{EventKind}
 use Rattle.tap_world.specs.declared.event.EventKind.TheVariants as event
 use Rattle.tap_world.specs.declared.event.Found.{Found}
 use Rattle.tap_world.specs.ByNumber.{at}
-use Rattle.vhost_dev.specs.Refusals.{number_refusal}
 use Rattle.vhost_dev.specs.Settings.{ring_at}
 use Rattle.std.proofs.Common.{true≢false}
-use Rattle.tap_world.specs.Setup.{Setup}
+use Rattle.tap_world.specs.Setup.{Setup, frame_of}
 use Rattle.tap_world.specs.Line.{File, first_that, front_place, in_batch, in_ring, last_that}
 use Rattle.tap_world.specs.LineSteps.{ready_front}
 use Rattle.tap_world.specs.Guests.{Vhost, is_free}
@@ -40,7 +37,7 @@ use Rattle.tap_world.specs.StepRing as ring
 use Rattle.tap_world.specs.StepTurns as rx_turns
 use Rattle.tap_world.specs.StepTransmits as tx_turns
 use Rattle.tap_sound.proofs.Kit.{either, where_if, where_only, where_then}
-use Rattle.tap_sound.proofs.Steps.{held, or_else, owning, turning}
+use Rattle.tap_sound.proofs.Steps.{held, or_else, owning, turning, tx_made, rx_missed, rx_stepped, rx_taken, setting, unsetting}
 use Rattle.tap_world.specs.LineSteps.{changed}
 use Rattle.tap_world.specs.LineSteps.Change.{Takes}
 use Rattle.tap_world.specs.Effect.{OnFiles}
@@ -49,6 +46,7 @@ use Rattle.tap_sound.proofs.Tame.{AllTame, HasGoodFate, HasSeenTo, IsBelow, IsTa
 use Rattle.vring_turns.specs.RxTurn.{rx_begun}
 use Rattle.vring_turns.specs.TxTurn.{tx_begun}
 use Rattle.vhost_dev.specs.Settings.{hdr_of}
+use Rattle.tap_trace.specs.declared.turn.TurnText.{TurnText}
 
 -- ---- frames
 
@@ -93,7 +91,7 @@ moves w b z d = tt
 
 leaves : (s : Setup) (w : World) (b z : Bool) (seen : ℕ) (d : Doing) → IsBelow w seen → AllTame w b z (ring.leaves s w seen d)
 leaves s w b z seen (Reads file room front) le = where_then (IsTame w b z) (at w.files file) _ (λ f e1. where_then (IsTame w b z) (first_that in_batch f.line) _
-    (λ i e2. where_then (IsTame w b z) (slice_get f.line i) _ (λ x e3. (λ e. refl, refl, λ e. tt, le))))
+    (λ i e2. where_then (IsTame w b z) (slice_get f.line i) _ (λ x e3. where_then (IsTame w b z) (frame_of s x.name x.len) _ (λ y e4. (λ e. refl, refl, λ e. tt, le)))))
 leaves s w b z seen (Purges file version) le = where_then (IsTame w b z) (at w.files file) _
     (λ f e1. where_then (IsTame w b z) (ring.name_at f.line (first_that in_batch f.line)) _ (λ x e2. (λ e. refl, refl, λ e. tt, tt)))
 leaves s w b z seen d le = tt
@@ -130,7 +128,7 @@ sets_back : (w : World) (b z : Bool) (actor seen vhost r file : ℕ) (x : Option
 sets_back w b z actor seen vhost r file x v m (Some a) le = (λ e. refl, tt, λ e. tt, le)
 sets_back w b z actor seen vhost r file x v m None le = (λ e. refl, tt, λ e. tt, le)
 
-unsets_back : (w : World) (b z : Bool) (actor seen vhost r : ℕ) (v : Vhost) (m : Contents) (a : Option VhostErr) (file : Option ℕ) → IsBelow w seen
+unsets_back : (w : World) (b z : Bool) (actor seen vhost r : ℕ) (v : Vhost) (m : Contents) (a : Option Answer) (file : Option ℕ) → IsBelow w seen
     → IsTame w b z (back.unsets_back w actor seen vhost r v m a file)
 unsets_back w b z actor seen vhost r v m (Some a) file le = (λ e. refl, tt, λ e. tt, le)
 unsets_back w b z actor seen vhost r v m None None le = (λ e. refl, tt, λ e. tt, le)
@@ -138,9 +136,9 @@ unsets_back w b z actor seen vhost r v m None (Some file) le = (λ e. refl, tt, 
 
 backs : (s : Setup) (w : World) (b z : Bool) (actor seen : ℕ) (d : Doing) (c : Command) → IsBelow w seen → AllTame w b z (back.backs s w actor seen d c)
 backs s w b z actor seen (Backs x) (command.Backend vhost r None) le = where_then (IsTame w b z) (at w.vhosts vhost) _ (λ v e1. where_then (IsTame w b z) (at w.guests v.guest) _
-    (λ g e2. where_only (IsTame w b z) _ _ (λ y. unsets_back w b z actor seen vhost r v g.memory (number_refusal r) (ring_at r v.settings).file le)))
+    (λ g e2. unsetting (IsTame w b z) s w actor seen x vhost r v g.memory (λ told e3. unsets_back w b z actor seen vhost r v g.memory told (ring_at r v.settings).file le)))
 backs s w b z actor seen (Backs x) (command.Backend vhost r (Some file)) le = where_then (IsTame w b z) (at w.vhosts vhost) _ (λ v e1. where_then (IsTame w b z) (at w.guests v.guest) _
-    (λ g e2. where_only (IsTame w b z) _ (back.sets_back w actor seen vhost r file x v g.memory _) (λ y. sets_back w b z actor seen vhost r file x v g.memory _ le)))
+    (λ g e2. setting (IsTame w b z) s w actor seen x vhost r file v g.memory (λ told e3. sets_back w b z actor seen vhost r file x v g.memory told le)))
 backs s w b z actor seen d c le = tt
 
 drive_row : (s : Setup) (w : World) (b z : Bool) (actor seen : ℕ) (d : Doing) (c : Command) → IsBelow w seen → AllTame w b z (rows.drive_row s w actor seen d c)
@@ -160,18 +158,18 @@ finds_off w b z seen d c le = tt
 
 -- ---- turns
 
-rx_seen : (n seen file : ℕ) (t : RxTurn) (f : Found) (o : Option End) → seen ≤ n → HasSeenTo n (rx_turns.rx_onward seen file t f o)
+rx_seen : (n seen file : ℕ) (t : RxTurn) (f : Found) (o : Option TurnText) → seen ≤ n → HasSeenTo n (rx_turns.rx_onward seen file t f o)
 rx_seen n seen file t f None le = le
 rx_seen n seen file t f (Some e) le = le
 
-tx_seen : (n seen file : ℕ) (t : TxTurn) (told : List ChainText) (f : Found) (o : Option End) → seen ≤ n → HasSeenTo n (tx_turns.tx_onward seen file t told f o)
+tx_seen : (n seen file : ℕ) (t : TxTurn) (told : List ChainText) (f : Found) (o : Option TurnText) → seen ≤ n → HasSeenTo n (tx_turns.tx_onward seen file t told f o)
 tx_seen n seen file t told f None le = le
 tx_seen n seen file t told f (Some e) le = le
 
-rx_event : (w : World) (b z : Bool) (actor seen vhost file : ℕ) (v : Vhost) (files : OnFiles) (f : Found) (made : RxState × Act) → HasGoodFate files → KeepsSize files → IsBelow w seen
-    → IsTame w b z (rx_turns.rx_event w actor seen vhost file v files f made)
-rx_event w b z actor seen vhost file v files f made good keeps le =
-    (λ e. refl, good, λ e. keeps, rx_seen (newest w + 0) seen file made.0.turn f (rx_turns.rx_over made.0.turn.stage) le)
+rx_event : (w : World) (b z : Bool) (actor seen vhost file : ℕ) (v : Vhost) (files : OnFiles) (f : Found) (over : Option TurnText) (made : RxState × Act) → HasGoodFate files → KeepsSize files → IsBelow w seen
+    → IsTame w b z (rx_turns.rx_effect w actor seen vhost file v files f over made)
+rx_event w b z actor seen vhost file v files f over made good keeps le =
+    (λ e. refl, good, λ e. keeps, rx_seen (newest w + 0) seen file made.0.turn f over le)
 
 rx_change : (vhost file : ℕ) (t : RxTurn) (st : RxStage) → HasGoodFate (rx_turns.rx_change vhost file t st) × KeepsSize (rx_turns.rx_change vhost file t st)
 rx_change vhost file t rx.Out = (refl, tt)
@@ -181,12 +179,14 @@ rx_change vhost file t st = (tt, tt)
 
 rx_steps_on : (w : World) (b z : Bool) (actor seen vhost file : ℕ) (t : RxTurn) (v : Vhost) (m : Contents) → IsBelow w seen → AllTame w b z (rx_turns.rx_steps_on w actor seen vhost file t v m)
 rx_steps_on w b z actor seen vhost file t v m le = where_then (IsTame w b z) (rx_step hand.Off (rx_turns.rx_state t v m)) _
-    (λ made e. rx_event w b z actor seen vhost file v (rx_turns.rx_change vhost file t t.stage) _ made (rx_change vhost file t t.stage).0 (rx_change vhost file t t.stage).1 le)
+    (λ made e. rx_stepped (IsTame w b z) w actor seen vhost file t v made
+    (λ f over e2 told. rx_event w b z actor seen vhost file v (rx_turns.rx_change vhost file t t.stage) f over made (rx_change vhost file t t.stage).0 (rx_change vhost file t t.stage).1 le))
 
 tx_steps_on : (w : World) (b z : Bool) (actor seen vhost file : ℕ) (t : TxTurn) (told : List ChainText) (v : Vhost) (m : Contents) → IsBelow w seen
     → AllTame w b z (tx_turns.tx_steps_on w actor seen vhost file t told v m)
 tx_steps_on w b z actor seen vhost file t told v m le = where_then (IsTame w b z) (tx_step (tx_turns.tx_state t v m)) _
-    (λ made x. (λ e. refl, tt, λ e. tt, tx_seen (newest w + 0) seen file made.0.turn _ _ (tx_turns.tx_over made.0.turn.stage) le))
+    (λ made x. tx_made (IsTame w b z) w actor seen vhost file told v made
+    (λ step over e2 end_. (λ e. refl, tt, λ e. tt, tx_seen (newest w + 0) seen file made.0.turn _ _ over le)))
 
 begins : (w : World) (b z : Bool) (actor n seen : ℕ) (c : Command) → IsBelow w seen → AllTame w b z (tx_turns.turn_begins w actor n seen c)
 begins w b z actor n seen c le = where_then (IsTame w b z) (rx_turns.turn_on c) _ (λ t e1. where_then (IsTame w b z) (at w.vhosts t.0) _ (λ v e2. where_then (IsTame w b z) (at w.guests v.guest) _
@@ -209,14 +209,15 @@ hands : (s : Setup) (w : World) (b z : Bool) (actor seen : ℕ) (d : Doing) (c :
 hands s w b z actor seen (Receives file t) c le = turning (IsTame w b z) w c _ (λ vhost v m. where_then (IsTame w b z) (at w.files file) _
     (λ f e1. where_then (IsTame w b z) (changed (Takes vhost) f) _ (λ g e2. where_then (IsTame w b z) (rx_turns.front_frame s g) _
     (λ frame e3. where_then (IsTame w b z) (rx_step (hand.Got frame) (rx_turns.rx_state t v m)) _
-    (λ made e. rx_event w b z actor seen vhost file v (OnFile file (Takes vhost)) (found.Moved frame.name) made tt tt le)))))
+    (λ made e. rx_taken (IsTame w b z) w actor seen vhost file v frame made
+    (λ over told. rx_event w b z actor seen vhost file v (OnFile file (Takes vhost)) (found.Moved frame.name) over made tt tt le))))))
 hands s w b z actor seen d c le = tt
 
 finds_nothing : (w : World) (b z : Bool) (actor seen : ℕ) (d : Doing) (c : Command) → IsBelow w seen → AllTame w b z (tx_turns.turn_finds_none w actor seen d c)
 finds_nothing w b z actor seen (Receives file t) c le = turning (IsTame w b z) w c _ (λ vhost v m. where_then (IsTame w b z) (at w.files file) _
     (λ f e1. where_then (IsTame w b z) (rx_step (hand.NotReady (front_place f)) (rx_turns.rx_state t v m)) _
-    (λ made e. where_only (IsTame w b z) _ (rx_turns.rx_event w actor seen vhost file v NoFile (found.NotReady (front_place f)) made)
-    (λ x. rx_event w b z actor seen vhost file v NoFile (found.NotReady (front_place f)) made tt tt le))))
+    (λ made e. rx_missed (IsTame w b z) w actor seen vhost file v f made
+    (λ over told. rx_event w b z actor seen vhost file v NoFile (found.NotReady (front_place f)) over made tt tt le))))
 finds_nothing w b z actor seen d c le = tt
 
 gives : (w : World) (b z : Bool) (seen : ℕ) (d : Doing) (c : Command) → IsBelow w seen → AllTame w b z (tx_turns.hosts_of_turn w seen d c)

@@ -6,7 +6,6 @@ use Rattle.tap_world.specs.World.{Actor, World}
 use Rattle.tap_ledger.specs.declared.hand.Hand.{Hand}
 use Rattle.tap_ledger.specs.declared.act.Act.{Act}
 use Rattle.tap_world.specs.declared.event.Found.{Found}
-use Rattle.vring_turns.specs.declared.end.End.{End}
 use Rattle.tap_world.specs.Setup.{Numbered, Setup}
 use Rattle.guest_mem.specs.Memory.{Contents, covers}
 use Rattle.vring_turns.specs.RxTurn.{RxState, RxTurn, rx_step}
@@ -21,14 +20,13 @@ use Rattle.tap_world.specs.Effect.OnVhosts.{OnVhost}
 use Rattle.tap_world.specs.Effect.{Onward, actor_after}
 use Rattle.tap_world.specs.Effect.Onward.{Ends, Goes, Stays}
 use Rattle.tap_sound.proofs.Shapes.{RxWay, TxWay}
-use Rattle.tap_world.specs.SoundRings.{Serves, StandsWith, TurnsAreHeld, is_about, serves, IsRing}
+use Rattle.tap_world.specs.Each.{EachActor, EachVhost}
+use Rattle.tap_world.specs.SoundRings.{HaveRings, IsRing, Serves, StandsWith, TurnsAreHeld, is_about, serves}
 use Rattle.tap_world.specs.Guests.{Guest, Vhost, turn_of}
 use Rattle.vhost_dev.specs.Settings.{RingSettings}
 use Rattle.tap_world.specs.declared.event.Event.{Event}
 use Rattle.tap_world.specs.ByNumber.{at}
-use Rattle.tap_world.specs.Sound.{EachVhost, EachActor}
 use Rattle.tap_world.specs.SoundActors.{CanBe}
-use Rattle.tap_sound.specs.Served.{HaveRings}
 use Rattle.tap_sound.proofs.ServedOn.{OldGuests}
 use Rattle.tap_sound.proofs.Taken.{IsStep}
 use Rattle.tap_sound.proofs.Turned.{at_is, itself, is_at, others}
@@ -46,6 +44,8 @@ use Rattle.tap_sound.proofs.StepFacts.{Does, RxDoes, TxDoes, lists_on, rx_does, 
 use Rattle.scen_words.specs.declared.command.Command.TheVariants as command
 use Rattle.tap_world.specs.StepTurns as rx_turns
 use Rattle.tap_world.specs.StepTransmits as tx_turns
+use Rattle.tap_trace.specs.declared.turn.TurnText.{TurnText}
+use Rattle.tap_sound.proofs.Steps.{is_over_told}
 
 pub record RingLaws : Type 0 where
   pub turn : TurnLaws
@@ -83,13 +83,13 @@ ring_does g r q m n does order h = record {
 
 module _ (s : Setup) (w : World) (x : Event) (u : World) (t : IsStep s w x u) where
   -- a receive turn
-  pub rx_kept : RingLaws → EachActor w (λ actor a. CanBe a) → EachVhost w (TurnsAreHeld w) → HaveRings w → (vhost file : ℕ) (q : RxTurn) (v : Vhost) (g : Guest) (h : Hand) (made : RxState × Act) (f : Found)
+  pub rx_kept : RingLaws → EachActor w (λ actor a. CanBe a) → EachVhost w (TurnsAreHeld w) → HaveRings w → (vhost file : ℕ) (q : RxTurn) (v : Vhost) (g : Guest) (h : Hand) (made : RxState × Act) (f : Found) (over : Option TurnText)
       → t.now.command ≡ command.RxTurn vhost → at w.vhosts vhost ≡ Some v → at w.guests v.guest ≡ Some g → RxWay x.actor t.actor.doing file q v
       → rx_step h (rx_turns.rx_state q v g.memory) ≡ Some made
-      → rx_turns.rx_onward t.actor.seen file made.0.turn f (rx_turns.rx_over made.0.turn.stage) ≡ t.effect.onward
-      → t.effect.vhosts ≡ OnVhost vhost (rx_turns.left 0 x.actor (is_some (rx_turns.rx_over made.0.turn.stage)) made.0.queue v)
+      → rx_turns.over_told (rx_turns.rx_over made.0.turn.stage) ≡ Some over → rx_turns.rx_onward t.actor.seen file made.0.turn f over ≡ t.effect.onward
+      → t.effect.vhosts ≡ OnVhost vhost (rx_turns.left 0 x.actor (is_some over) made.0.queue v)
       → OldGuests w t.between.guests → HaveRings t.between
-  rx_kept laws can turns each vhost file q v g h made f cis at_ got way step on vh guests = record {
+  rx_kept laws can turns each vhost file q v g h made f over cis at_ got way step end_ on vh guests = record {
     rings = rings_moved s w x u t vhost v new at_ (vhosts_on s w x u t (OnVhost vhost new) vh) guests refl
         (λ k is rxr txr. (
           ring_does k v.settings.rx made.0.queue g.memory made.0.memory does
@@ -101,7 +101,7 @@ module _ (s : Setup) (w : World) (x : Event) (u : World) (t : IsStep s w x u) wh
   }
     where
       new : Vhost
-      new = rx_turns.left 0 x.actor (is_some (rx_turns.rx_over made.0.turn.stage)) made.0.queue v
+      new = rx_turns.left 0 x.actor (is_some over) made.0.queue v
 
       does : RxDoes (rx_turns.rx_state q v g.memory) made
       does = where_some (RxDoes (rx_turns.rx_state q v g.memory)) _ made (rx_does h (rx_turns.rx_state q v g.memory)) step
@@ -135,7 +135,7 @@ module _ (s : Setup) (w : World) (x : Event) (u : World) (t : IsStep s w x u) wh
       has_file (inl was) = (each.served vhost v at_).backed 0 x.actor t.actor t.found (mine_of s w x u t vhost 0 was.0 its)
       has_file (inr was) = ap (λ (o : Option ℕ). is_some o) was.1
 
-      outcome : (o : Option End) → rx_turns.rx_over made.0.turn.stage ≡ o → Outcome s w x u t vhost v new 0
+      outcome : (o : Option TurnText) → over ≡ o → Outcome s w x u t vhost v new 0
       outcome None is =
           let goes : Goes t.actor.seen (Receives file made.0.turn) f ≡ t.effect.onward =
           sym (ap (rx_turns.rx_onward t.actor.seen file made.0.turn f) is) ∙ on in
@@ -146,24 +146,24 @@ module _ (s : Setup) (w : World) (x : Event) (u : World) (t : IsStep s w x u) wh
       outcome (Some e) is = Over
           (λ sv. true≢false (sym sv.0 ∙ ap (λ (o : Onward). serves (actor_after o t.actor).doing)
           (sym on ∙ ap (rx_turns.rx_onward t.actor.seen file made.0.turn f) is)))
-          (rx_idle made.0.turn made.0.queue made.0.turn.stage e refl is stood)
+          (let q = is_over_told (rx_turns.rx_over made.0.turn.stage) e (end_ ∙ ap (λ (o : Option TurnText). Some o) is) in rx_idle made.0.turn made.0.queue made.0.turn.stage q.0 refl q.1 stood)
 
       moves : (r : ℕ) → r < 2 → RingMove s w x u t vhost v new r
       moves r below = ⊎_elim
           (λ zero_. subst (RingMove s w x u t vhost v new) (sym zero_)
-          (Redone (others_free w x.actor vhost 0 v (turns vhost v at_) (omega arith) holder) (outcome (rx_turns.rx_over made.0.turn.stage) refl)))
+          (Redone (others_free w x.actor vhost 0 v (turns vhost v at_) (omega arith) holder) (outcome over refl)))
           (λ one_. subst (RingMove s w x u t vhost v new) (sym one_)
           (Still refl (λ sv. not_one (about_before vhost 1 t.actor t.now t.current_is sv)) (λ sv. not_one (about_after vhost 1 t.actor t.now t.effect.onward t.current_is sv))))
           (two_rings r below)
 
   -- a transmit turn
-  pub tx_kept : RingLaws → EachActor w (λ actor a. CanBe a) → EachVhost w (TurnsAreHeld w) → HaveRings w → (vhost file : ℕ) (q : TxTurn) (told after : List ChainText) (v : Vhost) (g : Guest) (made : TxState × Act) (f : Found)
+  pub tx_kept : RingLaws → EachActor w (λ actor a. CanBe a) → EachVhost w (TurnsAreHeld w) → HaveRings w → (vhost file : ℕ) (q : TxTurn) (told after : List ChainText) (v : Vhost) (g : Guest) (made : TxState × Act) (f : Found) (over : Option TurnText)
       → t.now.command ≡ command.TxTurn vhost → at w.vhosts vhost ≡ Some v → at w.guests v.guest ≡ Some g → TxWay t.actor.doing file q told v
       → tx_step (tx_turns.tx_state q v g.memory) ≡ Some made
-      → tx_turns.tx_onward t.actor.seen file made.0.turn after f (tx_turns.tx_over made.0.turn.stage) ≡ t.effect.onward
-      → t.effect.vhosts ≡ OnVhost vhost (rx_turns.left 1 x.actor (is_some (tx_turns.tx_over made.0.turn.stage)) made.0.queue v)
+      → rx_turns.over_told (tx_turns.tx_over made.0.turn.stage) ≡ Some over → tx_turns.tx_onward t.actor.seen file made.0.turn after f over ≡ t.effect.onward
+      → t.effect.vhosts ≡ OnVhost vhost (rx_turns.left 1 x.actor (is_some over) made.0.queue v)
       → OldGuests w t.between.guests → HaveRings t.between
-  tx_kept laws can turns each vhost file q told after v g made f cis at_ got way step on vh guests = record {
+  tx_kept laws can turns each vhost file q told after v g made f over cis at_ got way step end_ on vh guests = record {
     rings = rings_moved s w x u t vhost v new at_ (vhosts_on s w x u t (OnVhost vhost new) vh) guests refl
         (λ k is rxr txr. (
           rxr,
@@ -175,7 +175,7 @@ module _ (s : Setup) (w : World) (x : Event) (u : World) (t : IsStep s w x u) wh
   }
     where
       new : Vhost
-      new = rx_turns.left 1 x.actor (is_some (tx_turns.tx_over made.0.turn.stage)) made.0.queue v
+      new = rx_turns.left 1 x.actor (is_some over) made.0.queue v
 
       does : TxDoes (tx_turns.tx_state q v g.memory) made
       does = where_some (TxDoes (tx_turns.tx_state q v g.memory)) _ made (tx_does (tx_turns.tx_state q v g.memory)) step
@@ -209,7 +209,7 @@ module _ (s : Setup) (w : World) (x : Event) (u : World) (t : IsStep s w x u) wh
       has_file (inl was) = (each.served vhost v at_).backed 1 x.actor t.actor t.found (mine_of s w x u t vhost 1 was.0 its)
       has_file (inr was) = ap (λ (o : Option ℕ). is_some o) was.1
 
-      outcome : (o : Option End) → tx_turns.tx_over made.0.turn.stage ≡ o → Outcome s w x u t vhost v new 1
+      outcome : (o : Option TurnText) → over ≡ o → Outcome s w x u t vhost v new 1
       outcome None is =
           let goes : Goes t.actor.seen (Transmits file made.0.turn after) f ≡ t.effect.onward =
           sym (ap (tx_turns.tx_onward t.actor.seen file made.0.turn after f) is) ∙ on in
@@ -220,12 +220,12 @@ module _ (s : Setup) (w : World) (x : Event) (u : World) (t : IsStep s w x u) wh
       outcome (Some e) is = Over
           (λ sv. true≢false (sym sv.0 ∙ ap (λ (o : Onward). serves (actor_after o t.actor).doing)
           (sym on ∙ ap (tx_turns.tx_onward t.actor.seen file made.0.turn after f) is)))
-          (tx_idle made.0.turn made.0.queue made.0.turn.stage e refl is stood)
+          (let q = is_over_told (tx_turns.tx_over made.0.turn.stage) e (end_ ∙ ap (λ (o : Option TurnText). Some o) is) in tx_idle made.0.turn made.0.queue made.0.turn.stage q.0 refl q.1 stood)
 
       moves : (r : ℕ) → r < 2 → RingMove s w x u t vhost v new r
       moves r below = ⊎_elim
           (λ zero_. subst (RingMove s w x u t vhost v new) (sym zero_)
           (Still refl (λ sv. not_one (about_before vhost 0 t.actor t.now t.current_is sv)) (λ sv. not_one (about_after vhost 0 t.actor t.now t.effect.onward t.current_is sv))))
           (λ one_. subst (RingMove s w x u t vhost v new) (sym one_)
-          (Redone (others_free w x.actor vhost 1 v (turns vhost v at_) (omega arith) holder) (outcome (tx_turns.tx_over made.0.turn.stage) refl)))
+          (Redone (others_free w x.actor vhost 1 v (turns vhost v at_) (omega arith) holder) (outcome over refl)))
           (two_rings r below)

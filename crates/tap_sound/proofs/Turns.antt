@@ -4,10 +4,8 @@ use Rattle.std.specs.Prelude.{if◌then◌else◌, ◌==◌, ◌&&◌, ◌||◌,
 use Rattle.std.specs.Option.{option_map_or}
 use Rattle.std.proofs.lemmas.Bool.Decides.{eqb_tells, leb_tells}
 use Rattle.guest_mem.specs.Memory.{Contents}
-use Rattle.vhost_dev.specs.declared.error.VhostErr.{VhostErr}
 use Rattle.vhost_dev.specs.Refusals.{number_refusal, ready_refusal}
 use Rattle.vhost_dev.specs.Settings.{ring_at}
-use Rattle.vring_turns.specs.declared.end.End.{End}
 use Rattle.vring_turns.specs.RxTurn.{RxTurn}
 use Rattle.vring_turns.specs.TxTurn.{TxTurn}
 use Rattle.scen_words.specs.declared.command.Command.{Command}
@@ -32,10 +30,10 @@ use Rattle.tap_world.specs.StepBackend as back
 use Rattle.tap_world.specs.StepControl as control
 use Rattle.tap_world.specs.StepTurns as rx_turns
 use Rattle.tap_world.specs.StepTransmits as tx_turns
-use Rattle.tap_world.specs.Sound.{EachVhost}
+use Rattle.tap_world.specs.Each.{EachVhost}
 use Rattle.tap_world.specs.SoundRings.{IsActor, TurnsAreHeld, holds_turn, is_about, ring_in}
 use Rattle.tap_world.specs.SoundActors.{can_be, sets, unsets}
-use Rattle.tap_sound.proofs.Kit.{either, some_same, then_some}
+use Rattle.tap_sound.proofs.Kit.{either, some_same, then_some, WhereSome, where_some, where_then}
 use Rattle.tap_sound.proofs.Calls.{Called, called_is}
 use Rattle.tap_sound.proofs.Calls.Called.{Addr, Base, Features, Num, Untouched}
 use Rattle.tap_sound.proofs.Claims.{with_at_inv}
@@ -47,6 +45,7 @@ use Rattle.tap_sound.proofs.Taken.{IsStep, both, when_settled}
 use Rattle.tap_sound.proofs.Turned.{IsThere, Turned, held_on, is_at, itself, others, others_on, there_on, with_nth_inv, with_nth_there}
 use Rattle.tap_sound.proofs.Turned.Turned.{Gives, Keeps, Rests, Takes}
 use Rattle.tap_sound.proofs.Writers.{course_is, doing_after, unset_refusal}
+use Rattle.tap_trace.specs.declared.turn.TurnText.{TurnText}
 
 -- ---- small things
 
@@ -204,7 +203,7 @@ sets_back w me seen vhost ring file x v m (Some a) at_ h = back_ends w me vhost 
 sets_back w me seen vhost ring file None v m None at_ h = Unmoved (one_changed w (back.sets_back w me seen vhost ring file None v m None) vhost v _ refl at_ refl refl) refl
 sets_back w me seen vhost ring file (Some x) v m None at_ h = absurd (cc (h refl))
 
-unsets_back : (w : World) (me seen vhost ring : ℕ) (v : Vhost) (m : Contents) (a : Option VhostErr) (file : Option ℕ) → at w.vhosts vhost ≡ Some v
+unsets_back : (w : World) (me seen vhost ring : ℕ) (v : Vhost) (m : Contents) (a : Option Answer) (file : Option ℕ) → at w.vhosts vhost ≡ Some v
     → Turning w me (Backs None) (command.Backend vhost ring None) (back.unsets_back w me seen vhost ring v m a file)
 unsets_back w me seen vhost ring v m (Some a) file at_ = back_ends w me vhost ring None None v _ at_ refl refl
 unsets_back w me seen vhost ring v m None None at_ = back_ends w me vhost ring None None v _ at_ refl refl
@@ -212,13 +211,16 @@ unsets_back w me seen vhost ring v m None (Some file) at_ =
     Unmoved (one_changed w (back.unsets_back w me seen vhost ring v m None (Some file)) vhost v _ refl at_ refl refl) (either (λ (d : Doing). holds_turn d ≡ true) (ring == 0) (Unbacked file) (Released file) refl refl)
 
 back_calls : (s : Setup) (w : World) (me seen : ℕ) (x : Option TapText) (vhost ring : ℕ) (file : Option ℕ) (v : Vhost) (m : Contents) → at w.vhosts vhost ≡ Some v
-    → (file ≡ None → x ≡ None) → Turning w me (Backs x) (command.Backend vhost ring file) (back.back_call s w me seen x vhost ring file v m)
+    → (file ≡ None → x ≡ None) → WhereSome (Turning w me (Backs x) (command.Backend vhost ring file)) (back.back_call s w me seen x vhost ring file v m)
 back_calls s w me seen x vhost ring None v m at_ h =
-    subst (λ (q : Option TapText). Turning w me (Backs q) (command.Backend vhost ring None) (back.back_call s w me seen q vhost ring None v m)) (sym (h refl))
-    (unsets_back w me seen vhost ring v m (number_refusal ring) (ring_at ring v.settings).file at_)
+    let P : Effect → Type 0 = Turning w me (Backs x) (command.Backend vhost ring None) in
+    where_then P (back.refused_by (number_refusal ring)) _ (λ told e.
+    subst (λ (q : Option TapText). Turning w me (Backs q) (command.Backend vhost ring None) (back.unsets_back w me seen vhost ring v m told (ring_at ring v.settings).file)) (sym (h refl))
+    (unsets_back w me seen vhost ring v m told (ring_at ring v.settings).file at_))
 back_calls s w me seen x vhost ring (Some file) v m at_ h =
-    sets_back w me seen vhost ring file x v m (back.back_answer (ready_refusal ring m v.settings) x (back.unfit_for (steer.shape_of (table s w) file) v.settings)) at_
-    (λ e. (answered _ _ _ e).1)
+    let P : Effect → Type 0 = Turning w me (Backs x) (command.Backend vhost ring (Some file)) in
+    where_then P (back.back_answer (ready_refusal ring m v.settings) x (back.unfit_for (steer.shape_of (table s w) file) v.settings)) _
+    (λ told e. sets_back w me seen vhost ring file x v m told at_ (λ k. (answered _ _ _ (e ∙ ap (λ (o : Option Answer). Some o) k)).1))
 
 -- ---- calls leave turns
 
@@ -235,14 +237,14 @@ free_of : (o : Option ℕ) → is_none o ≡ true → o ≡ None
 free_of None h = refl
 free_of (Some x) h = absurd (true≢false (sym h))
 
-rx_turned : (me seen file : ℕ) (d : Doing) (t u : RxTurn) (f : Found) (v : Vhost) → RxWay me d file t v → (o : Option End)
+rx_turned : (me seen file : ℕ) (d : Doing) (t u : RxTurn) (f : Found) (v : Vhost) → RxWay me d file t v → (o : Option TurnText)
     → Turned me (turn_of 0 v) (if is_some o then None else Some me) (holds_turn d) (holds_turn (doing_after (rx_turns.rx_onward seen file u f o) d))
 rx_turned me seen file d t u f v (inl is) None = Keeps (ap holds_turn is) refl refl
 rx_turned me seen file d t u f v (inl is) (Some e) = Gives (ap holds_turn is) refl refl
 rx_turned me seen file d t u f v (inr is) None = Takes (free_of v.rx_turn is.2) refl refl
 rx_turned me seen file d t u f v (inr is) (Some e) = Rests (sym (free_of v.rx_turn is.2)) (sym (ap holds_turn is.0))
 
-tx_turned : (me seen file : ℕ) (d : Doing) (t u : TxTurn) (told after : List ChainText) (f : Found) (v : Vhost) → TxWay d file t told v → (o : Option End)
+tx_turned : (me seen file : ℕ) (d : Doing) (t u : TxTurn) (told after : List ChainText) (f : Found) (v : Vhost) → TxWay d file t told v → (o : Option TurnText)
     → Turned me (turn_of 1 v) (if is_some o then None else Some me) (holds_turn d) (holds_turn (doing_after (tx_turns.tx_onward seen file u after f o) d))
 tx_turned me seen file d t u told after f v (inl is) None = Keeps (ap holds_turn is) refl refl
 tx_turned me seen file d t u told after f v (inl is) (Some e) = Gives (ap holds_turn is) refl refl
@@ -290,27 +292,27 @@ turning s w me seen d c r can (Owning vhost ring asked cis eq) =
 turning s w me seen d c r can (BackDrives x vhost ring file v g is cis a b free eq) =
     subst (λ (q : Command). Turning w me d q r) (sym cis)
     (subst (λ (q : Doing). Turning w me q (command.Backend vhost ring file) r) (sym is)
-    (subst (Turning w me (Backs x) (command.Backend vhost ring file)) eq (back_calls s w me seen x vhost ring file v g.memory a
-    (λ none. unset_refusal d x vhost ring c is (cis ∙ ap (command.Backend vhost ring) none) can))))
+    (where_some (Turning w me (Backs x) (command.Backend vhost ring file)) _ r (back_calls s w me seen x vhost ring file v g.memory a
+    (λ none. unset_refusal d x vhost ring c is (cis ∙ ap (command.Backend vhost ring) none) can)) eq))
 turning s w me seen d c r can (Calling vhost v g x is of a b call may eq) =
     let t = call_turns w c v g.memory x (called_is c v g.memory x call) in
     subst (Turning w me d c) eq (Unmoved (one_changed w (control.call_effect w seen vhost v.guest x) vhost v x.vhost refl a t.0 t.1) (sym (ap holds_turn is)))
 turning s w me seen d c r can (Touching guest g m step v y at_ same is o f gs vs wr on) =
     Unmoved (none_changed w r vs) (ap (λ (q : Onward). holds_turn (doing_after q d)) on ∙ sym (ap holds_turn is))
-turning s w me seen d c r can (RxTurning vhost file t v g h made files f cis a b way step leaves eq) =
+turning s w me seen d c r can (RxTurning vhost file t v g h made files f over cis a b way step leaves told_ eq) =
     subst (λ (q : Command). Turning w me d q r) (sym cis)
-    (subst (Turning w me d (command.RxTurn vhost)) eq (Moved vhost 0 v _ (if is_some (rx_turns.rx_over made.0.turn.stage) then None else Some me) refl a (omega arith) (λ v0 r0. refl)
-    (λ r0. rx_left r0 _ made.0.queue v) (rx_turned me seen file d t made.0.turn f v way (rx_turns.rx_over made.0.turn.stage))))
+    (subst (Turning w me d (command.RxTurn vhost)) eq (Moved vhost 0 v _ (if is_some over then None else Some me) refl a (omega arith) (λ v0 r0. refl)
+    (λ r0. rx_left r0 _ made.0.queue v) (rx_turned me seen file d t made.0.turn f v way over)))
   where
     rx_left : (r0 : ℕ) (o : Option ℕ) (q : Queue) (v : Vhost) → turn_of r0 (with_turn 0 o (with_queue 0 q v)) ≡ turn_of r0 (with_turn 0 o v)
     rx_left r0 o q v = either_same (r0 == 0)
       where
         either_same : (b : Bool) → (if b then o else v.tx_turn) ≡ (if b then o else v.tx_turn)
         either_same b = refl
-turning s w me seen d c r can (TxTurning vhost file t told v g made cis a b way step eq) =
+turning s w me seen d c r can (TxTurning vhost file t told v g made st over cis a b way step end_ eq) =
     subst (λ (q : Command). Turning w me d q r) (sym cis)
-    (subst (Turning w me d (command.TxTurn vhost)) eq (Moved vhost 1 v _ (if is_some (tx_turns.tx_over made.0.turn.stage) then None else Some me) refl a (omega arith) (λ v0 r0. refl)
-    (λ r0. refl) (tx_turned me seen file d t made.0.turn told _ _ v way (tx_turns.tx_over made.0.turn.stage))))
+    (subst (Turning w me d (command.TxTurn vhost)) eq (Moved vhost 1 v _ (if is_some over then None else Some me) refl a (omega arith) (λ v0 r0. refl)
+    (λ r0. refl) (tx_turned me seen file d t made.0.turn told _ _ v way over)))
 
 -- ---- the world after it
 

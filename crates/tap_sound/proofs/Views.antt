@@ -11,7 +11,8 @@ use Rattle.tap_world.specs.World.{Actor, Doing, World, current}
 use Rattle.tap_world.specs.World.Doing.{Begun, Purges}
 use Rattle.tap_world.specs.Effect.{Ending, Onward, actor_after, ended}
 use Rattle.tap_world.specs.Effect.Onward.{Ends, Goes, Stays}
-use Rattle.tap_world.specs.Sound.{EachActor, WriterIsHeld, holds}
+use Rattle.tap_world.specs.Each.{EachActor}
+use Rattle.tap_world.specs.Sound.{WriterIsHeld, holds}
 use Rattle.tap_world.specs.SoundActors.{can_be}
 use Rattle.tap_world.specs.SoundTable.{commanded, writing, writer_of}
 use Rattle.tap_sound.proofs.Scripts.{effect_actors}

@@ -6,10 +6,8 @@ use Rattle.tap_steer.specs.declared.operation.Op.{Op}
 use Rattle.tap_steer.specs.declared.operation.Op.TheVariants as op
 use Rattle.tap_steer.specs.declared.operation.TheConstants.{IFF_ATTACH_QUEUE}
 use Rattle.tap_steer.specs.Table.{Table, file_at, is_set}
-use Rattle.vhost_dev.specs.declared.error.VhostErr.{VhostErr}
 use Rattle.vhost_dev.specs.Refusals.{number_refusal, ready_refusal}
 use Rattle.vhost_dev.specs.Settings.{ring_at}
-use Rattle.vring_turns.specs.declared.end.End.{End}
 use Rattle.vring_turns.specs.RxTurn.{RxTurn}
 use Rattle.vring_turns.specs.TxTurn.{TxTurn}
 use Rattle.scen_words.specs.declared.command.Command.{Command}
@@ -31,10 +29,11 @@ use Rattle.tap_world.specs.StepBackend as back
 use Rattle.tap_world.specs.StepTable as tables
 use Rattle.tap_world.specs.StepTurns as rx_turns
 use Rattle.tap_world.specs.StepTransmits as tx_turns
-use Rattle.tap_world.specs.Sound.{EachActor, WriterIsHeld, holds}
+use Rattle.tap_world.specs.Each.{EachActor}
+use Rattle.tap_world.specs.Sound.{WriterIsHeld, holds}
 use Rattle.tap_world.specs.SoundRings.{IsActor}
 use Rattle.tap_world.specs.SoundActors.{can_be}
-use Rattle.tap_sound.proofs.Kit.{either, some_same, then_some}
+use Rattle.tap_sound.proofs.Kit.{either, some_same, then_some, WhereSome, where_some, where_then}
 use Rattle.tap_sound.proofs.Scripts.{effect_actors}
 use Rattle.tap_sound.proofs.Shapes.{Alike, IsLast, RxWay, Shape, TxWay}
 use Rattle.tap_sound.proofs.Shapes.Shape.{Giving, Approves, BackApproves, BackDrives, BackPublishes, Calling, Learning, Owning, Publishing, Quiet, Reopening, RxTurning, Shutting, Sizing, Touching, Trims, TxTurning, Withdrawing}
@@ -42,6 +41,7 @@ use Rattle.tap_sound.proofs.Standing.{answered}
 use Rattle.tap_sound.proofs.Taken.{IsStep, when_settled}
 use Rattle.tap_sound.proofs.Turned.{IsThere, Turned, held_on, is_at, others, others_on, there_on, with_nth_inv}
 use Rattle.tap_sound.proofs.Turned.Turned.{Gives, Rests, Takes}
+use Rattle.tap_trace.specs.declared.turn.TurnText.{TurnText}
 
 -- how far the command has come after an event
 abbrev pub doing_after : Onward → Doing → Doing
@@ -99,7 +99,7 @@ sets_back w me seen vhost ring file (Some x) v m (Some a) h = Rests refl refl
 sets_back w me seen vhost ring file None v m None h = Rests refl refl
 sets_back w me seen vhost ring file (Some x) v m None h = absurd (cc (h refl))
 
-unsets_back : (w : World) (me seen vhost ring : ℕ) (v : Vhost) (m : Contents) (a : Option VhostErr) (file : Option ℕ)
+unsets_back : (w : World) (me seen vhost ring : ℕ) (v : Vhost) (m : Contents) (a : Option Answer) (file : Option ℕ)
     → Holding w me (Backs None) (back.unsets_back w me seen vhost ring v m a file)
 unsets_back w me seen vhost ring v m (Some a) file = Gives refl refl refl
 unsets_back w me seen vhost ring v m None None = Gives refl refl refl
@@ -115,19 +115,20 @@ unset_refusal d x vhost ring c is cis can =
     no_refusal x (subst (λ (q : Command). can_be (Backs x) q ≡ true) cis (subst (λ (q : Doing). can_be q c ≡ true) is can))
 
 back_calls : (s : Setup) (w : World) (me seen : ℕ) (x : Option TapText) (vhost ring : ℕ) (file : Option ℕ) (v : Vhost) (m : Contents)
-    → (file ≡ None → x ≡ None) → Holding w me (Backs x) (back.back_call s w me seen x vhost ring file v m)
+    → (file ≡ None → x ≡ None) → WhereSome (Holding w me (Backs x)) (back.back_call s w me seen x vhost ring file v m)
 back_calls s w me seen x vhost ring None v m h =
-    subst (λ (q : Option TapText). Holding w me (Backs q) (back.back_call s w me seen q vhost ring None v m)) (sym (h refl))
-    (unsets_back w me seen vhost ring v m (number_refusal ring) (ring_at ring v.settings).file)
+    where_then (Holding w me (Backs x)) (back.refused_by (number_refusal ring)) _ (λ told e.
+    subst (λ (q : Option TapText). Holding w me (Backs q) (back.unsets_back w me seen vhost ring v m told (ring_at ring v.settings).file)) (sym (h refl))
+    (unsets_back w me seen vhost ring v m told (ring_at ring v.settings).file))
 back_calls s w me seen x vhost ring (Some file) v m h =
-    sets_back w me seen vhost ring file x v m (back.back_answer (ready_refusal ring m v.settings) x (back.unfit_for (steer.shape_of (table s w) file) v.settings))
-    (λ e. (answered _ _ _ e).1)
+    where_then (Holding w me (Backs x)) (back.back_answer (ready_refusal ring m v.settings) x (back.unfit_for (steer.shape_of (table s w) file) v.settings)) _
+    (λ told e. sets_back w me seen vhost ring file x v m told (λ k. (answered _ _ _ (e ∙ ap (λ (o : Option Answer). Some o) k)).1))
 
-pub rx_holds : (seen file : ℕ) (t : RxTurn) (f : Found) (d : Doing) (o : Option End) → holds (doing_after (rx_turns.rx_onward seen file t f o) d) ≡ false
+pub rx_holds : (seen file : ℕ) (t : RxTurn) (f : Found) (d : Doing) (o : Option TurnText) → holds (doing_after (rx_turns.rx_onward seen file t f o) d) ≡ false
 rx_holds seen file t f d None = refl
 rx_holds seen file t f d (Some e) = refl
 
-pub tx_holds : (seen file : ℕ) (t : TxTurn) (told : List ChainText) (f : Found) (d : Doing) (o : Option End) → holds (doing_after (tx_turns.tx_onward seen file t told f o) d) ≡ false
+pub tx_holds : (seen file : ℕ) (t : TxTurn) (told : List ChainText) (f : Found) (d : Doing) (o : Option TurnText) → holds (doing_after (tx_turns.tx_onward seen file t told f o) d) ≡ false
 tx_holds seen file t told f d None = refl
 tx_holds seen file t told f d (Some e) = refl
 
@@ -156,15 +157,15 @@ holding s w me seen d c r can (BackPublishes vhost ring asked cis eq) = back_pub
 holding s w me seen d c r can (Owning vhost ring asked cis eq) = owning w me seen d vhost ring asked r eq
 holding s w me seen d c r can (BackDrives x vhost ring file v g is cis a b free eq) =
     subst (λ (q : Doing). Holding w me q r) (sym is)
-    (subst (Holding w me (Backs x)) eq (back_calls s w me seen x vhost ring file v g.memory
-    (λ none. unset_refusal d x vhost ring c is (cis ∙ ap (command.Backend vhost ring) none) can)))
+    (where_some (Holding w me (Backs x)) _ r (back_calls s w me seen x vhost ring file v g.memory
+    (λ none. unset_refusal d x vhost ring c is (cis ∙ ap (command.Backend vhost ring) none) can)) eq)
 holding s w me seen d c r can (Calling vhost v g x is of a b call may eq) = subst (Holding w me d) eq (Rests refl (sym (ap holds is)))
 holding s w me seen d c r can (Touching guest g m step v y at_ same is o f gs vs wr on) =
     Rests wr (ap (λ (q : Onward). holds (doing_after q d)) on ∙ sym (ap holds is))
-holding s w me seen d c r can (RxTurning vhost file t v g h made files f cis a b way step leaves eq) =
-    subst (Holding w me d) eq (Rests refl (rx_holds seen file made.0.turn f d _ ∙ sym (rx_free me d file t v way)))
-holding s w me seen d c r can (TxTurning vhost file t told v g made cis a b way step eq) =
-    subst (Holding w me d) eq (Rests refl (tx_holds seen file made.0.turn _ _ d _ ∙ sym (tx_free d file t told v way)))
+holding s w me seen d c r can (RxTurning vhost file t v g h made files f over cis a b way step leaves told_ eq) =
+    subst (Holding w me d) eq (Rests refl (rx_holds seen file made.0.turn f d over ∙ sym (rx_free me d file t v way)))
+holding s w me seen d c r can (TxTurning vhost file t told v g made st over cis a b way step end_ eq) =
+    subst (Holding w me d) eq (Rests refl (tx_holds seen file made.0.turn _ _ d over ∙ sym (tx_free d file t told v way)))
 
 -- ---- the world after it
 

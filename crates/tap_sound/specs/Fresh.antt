@@ -8,7 +8,7 @@ use Rattle.tap_world.specs.Setup.{setup_of}
 use Rattle.tap_world.specs.World.{World}
 use Rattle.tap_world.specs.Effect.{Effect}
 use Rattle.tap_world.specs.Step.{effect, row_of}
-use Rattle.tap_sound.specs.Reached.{IsReached}
+use Rattle.tap_sound.specs.Worlds.{IsWorldOf}
 
 -- commands are numbered one after another, from a number on; over all phases
 abbrev pub AreNumbered : ℕ → List Line → Type 0
@@ -23,5 +23,5 @@ ArePhasesNumbered n (p ∷ ps) = AreNumbered n p.lines × ArePhasesNumbered (n +
 -- next and has an effect drops, hosts and places names that stand nowhere yet.
 abbrev pub NamesAreNew : Type 0
 NamesAreNew =
-    (s : Scenario) (w : World) (e : Event) (r : Effect) → ArePhasesNumbered 0 s.phases → IsReached s w
+    (s : Scenario) (w : World) (e : Event) (r : Effect) → ArePhasesNumbered 0 s.phases → IsWorldOf s w
     → row_of (setup_of s) w e ≡ Some r → effect (setup_of s) w e ≡ Some r

@@ -1,6 +1,8 @@
+pub mod Keeps
 pub mod Laws
 pub mod Kept
 pub mod Used
+pub mod Worlds
 pub mod Reached
 pub mod Held
 pub mod Names
@@ -11,4 +13,3 @@ pub mod Fresh
 pub mod Served
 pub mod Soundness
 pub mod SoundRuns
-pub mod Worlds

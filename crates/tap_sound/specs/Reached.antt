@@ -1,27 +1,15 @@
 -- This project's own: what holds in each world that a run ends in.
-use Rattle.std.specs.Prelude.{◌≡◌, ℕ, ◌^◌, ◌-◌, ◌≤◌, List, take, slice_get, Some}
-use Rattle.scen_text.specs.declared.scenario.Phase.{Phase}
+use Rattle.std.specs.Prelude.{◌≡◌, ℕ, ◌^◌, ◌-◌, ◌≤◌, List, Some}
 use Rattle.scen_text.specs.declared.scenario.Scenario.{Scenario}
 use Rattle.tap_world.specs.declared.event.Event.{Event}
 use Rattle.tap_world.specs.ByNumber.{at}
 use Rattle.tap_world.specs.Setup.{Declared, Setup, setup_of}
 use Rattle.tap_world.specs.World.{World}
-use Rattle.tap_world.specs.Runs.{IsRun, begins, opening, run, run_phases}
-use Rattle.tap_world.specs.Sound.{ClaimIsHeld, EachActor, EachFile, HasEpochs, HasSeen, IsEmptyWhenShut}
+use Rattle.tap_world.specs.Runs.{IsRun, run}
+use Rattle.tap_world.specs.Each.{EachActor, EachFile}
+use Rattle.tap_world.specs.Sound.{ClaimIsHeld, HasEpochs, HasSeen, IsEmptyWhenShut, IsOrdered}
 use Rattle.tap_world.specs.SoundActors.{CanBe}
-use Rattle.tap_sound.specs.Kept.{IsOrdered}
-
--- a world that a run of a scenario reaches: so many of its phases have ended, and of the next one there were some
--- events
-pub record IsReached (s : Scenario) (w : World) : Type 0 where
-  pub ended : ℕ
-  pub events : List (List Event)
-  pub before : World
-  pub is_before : run_phases (setup_of s) 0 (take ended s.phases) events (opening (setup_of s)) ≡ Some before
-  pub phase : Phase
-  pub is_next : slice_get s.phases ended ≡ Some phase
-  pub so_far : List Event
-  pub is : run (setup_of s) so_far (begins ended phase before) ≡ Some w
+use Rattle.tap_sound.specs.Worlds.{IsWorldOf}
 
 -- the parts of soundness that every event keeps by themselves
 pub record IsKept (w : World) : Type 0 where
@@ -46,4 +34,4 @@ abbrev pub PhaseIsKept : Type 0
 PhaseIsKept = (s : Setup) (es : List Event) (w v : World) → run s es w ≡ Some v → IsKept w → IsKept v
 
 abbrev pub ReachedIsKept : Type 0
-ReachedIsKept = (s : Scenario) (w : World) → HasPlaces (setup_of s) → IsReached s w → IsKept w
+ReachedIsKept = (s : Scenario) (w : World) → HasPlaces (setup_of s) → IsWorldOf s w → IsKept w

@@ -7,17 +7,18 @@ use Rattle.tap_world.specs.Setup.{Setup, setup_of}
 use Rattle.tap_world.specs.World.{World}
 use Rattle.tap_world.specs.Runs.{IsRun}
 use Rattle.tap_world.specs.Sound.{IsSound}
-use Rattle.tap_sound.specs.Reached.{HasPlaces, IsReached}
+use Rattle.tap_sound.specs.Reached.{HasPlaces}
+use Rattle.tap_sound.specs.Worlds.{IsWorldOf}
 
 -- each vhost's guest has a region
 abbrev pub HasGuests : Setup → Type 0
 HasGuests s = (vhost guest : ℕ) → at s.vhosts vhost ≡ Some guest → is_some (at s.guests guest) ≡ true
 
--- In a run of a scenario whose first places are of 2 ^ 40, and whose vhosts have guests, each world is sound, and the
--- one that it ends in.
+-- Each world of a scenario whose first places are of 2 ^ 40, and whose vhosts have guests, is sound, and the one that a
+-- run of it ends in.
 abbrev pub ReachedIsSound : Type 0
 ReachedIsSound =
-    (s : Scenario) (w : World) → HasPlaces (setup_of s) → HasGuests (setup_of s) → IsReached s w
+    (s : Scenario) (w : World) → HasPlaces (setup_of s) → HasGuests (setup_of s) → IsWorldOf s w
     → IsSound (setup_of s) w
 
 abbrev pub RunIsSound : Type 0

@@ -11,11 +11,11 @@ use Rattle.tap_world.specs.World.{World}
 use Rattle.tap_world.specs.Project.{lists_from}
 use Rattle.tap_world.specs.Sound.{IsSound}
 
--- the k-th chain that was published of a list has the k-th position from its base on
+-- the k-th entry of a list has the k-th position from its base on
 abbrev pub IsCounted : PositionList → Type 0
 IsCounted l = map (λ (c : Published). c.0) l.used ≡ positions_from l.base (length l.used)
 
--- In a sound world each list that the trace tells of a ring is counted so: its k-th entry is the k-th chain, once.
+-- In a sound world each list that the trace tells of a ring is counted so.
 abbrev pub UsedIsCounted : Type 0
 UsedIsCounted =
     (s : Setup) (w : World) (vhost ring : ℕ) (v : Vhost) → IsSound s w → at w.vhosts vhost ≡ Some v

@@ -1,11 +1,16 @@
 //! What is true of every run of a scenario: laws, each a function that does nothing. The statements stand in `specs/`.
 //!
-//! `specs/Laws.antt` says that a run's events are the scripts of its commands, and that nothing is left undone;
-//! `specs/Kept.antt`, `specs/Names.antt`, `specs/Hand.antt`, `specs/Room.antt`, `specs/Held.antt`,
-//! `specs/Tabled.antt` and `specs/Served.antt` what each event keeps of what is sound, and `specs/Soundness.antt` that
-//! every event keeps all of it; `specs/SoundRuns.antt`, `specs/Reached.antt` and `specs/Worlds.antt` what therefore
-//! holds in every world of a run; `specs/Fresh.antt` that events have new names; `specs/Used.antt` what a trace tells
-//! of published chains. The proofs begin with `proofs/Kit.antt` and `proofs/Taken.antt`, which take a step apart.
+//! The first eight carry what is promised. A run's events are the scripts of its commands, the run of a seed is a run,
+//! and nothing is left undone (`specs/Laws.antt`); each world that a run reaches is sound, in ten parts
+//! (`specs/SoundRuns.antt`), since every event keeps a sound world sound (`specs/Soundness.antt`); worlds lead from one
+//! to the next (`specs/Worlds.antt`, which says which a run reaches); events have new names (`specs/Fresh.antt`); and
+//! what a trace tells of published chains is counted (`specs/Used.antt`). `specs/Keeps.antt` says what it is that every
+//! event keeps a fact.
+//!
+//! The others are steps on the way: one or a few of the ten parts each, with the parts of the world before that they
+//! rest on (`specs/Kept.antt`, `specs/Names.antt`, `specs/Room.antt`, `specs/Hand.antt`, `specs/Held.antt`,
+//! `specs/Tabled.antt`, `specs/Served.antt`, `specs/Reached.antt`). The proofs begin with `proofs/Kit.antt` and
+//! `proofs/Taken.antt`, which take a step apart.
 #![tactic(auto)]
 
 ghost use Rattle.tap_sound.specs.Fresh.{NamesAreNew};
@@ -21,7 +26,9 @@ ghost use Rattle.tap_sound.specs.SoundRuns.{ReachedIsSound, RunIsSound};
 ghost use Rattle.tap_sound.specs.Soundness.{SoundnessIsKept};
 ghost use Rattle.tap_sound.specs.Tabled.{TableIsKept};
 ghost use Rattle.tap_sound.specs.Used.{UsedIsCounted};
-ghost use Rattle.tap_sound.specs.Worlds.{ReachedIsSoundButRings, SoundButRingsIsKept};
+ghost use Rattle.tap_sound.specs.Worlds.{EventsGoOn, LastIsRun, OpeningIsFirst, PhasesBegin, PhasesEnd, WorldsGoOn};
+
+// ---- what is promised
 
 /// In a run the events of each actor are the scripts of its commands, one after another; on the way to its end the last
 /// of them may be the beginning of one.
@@ -40,6 +47,51 @@ pub fn all_is_done()
     ensures { AllIsDone }
 {}
 
+/// Each world that a run reaches is sound, between phases and in them, and the one that it ends in, where declared
+/// first places are at most 2^40 - 1 and each vhost's guest has a region.
+pub fn runs_are_sound()
+    ensures reached { ReachedIsSound }
+    ensures ended { RunIsSound }
+{
+    vring_turns::receive_standing();
+    vring_turns::transmit_standing();
+    vhost_dev::rings_stay_good();
+    vhost_dev::lists_stay_in_order();
+}
+
+/// For every event keeps a sound world sound, in all ten parts.
+pub fn soundness_is_kept()
+    ensures { SoundnessIsKept }
+{
+    vring_turns::receive_standing();
+    vring_turns::transmit_standing();
+    vhost_dev::rings_stay_good();
+    vhost_dev::lists_stay_in_order();
+}
+
+/// The worlds that a run reaches lead from one to the next: from the first on phases begin, events go on and phases
+/// end, and after the last phase it is a run. Each event of a world of a scenario leads to one.
+pub fn worlds_go_on()
+    ensures first { OpeningIsFirst }
+    ensures begin { PhasesBegin }
+    ensures event { EventsGoOn }
+    ensures end { PhasesEnd }
+    ensures last { LastIsRun }
+    ensures reached { WorldsGoOn }
+{}
+
+/// No event of a world that a run reaches is refused for its names, where commands are numbered from 0 on.
+pub fn names_are_new()
+    ensures { NamesAreNew }
+{}
+
+/// In a sound world the k-th entry of a list of positions has the k-th position from the list's base on.
+pub fn used_is_counted()
+    ensures { UsedIsCounted }
+{}
+
+// ---- steps on the way
+
 /// Every event keeps each line in order: epochs never fall along it, and its parts stand one behind the other.
 pub fn lines_are_kept()
     ensures epochs { EpochsAreKept }
@@ -57,11 +109,6 @@ pub fn versions_are_kept()
     ensures { VersionsAreKept }
 {}
 
-/// In a sound world the k-th entry of a list of positions is the k-th chain, published once.
-pub fn used_is_counted()
-    ensures { UsedIsCounted }
-{}
-
 /// Every event keeps that each command has come no further than it can, and that an actor without one has begun none.
 pub fn stands_are_kept()
     ensures { StandsAreKept }
@@ -77,8 +124,8 @@ pub fn shut_is_kept()
     ensures { ShutIsKept }
 {}
 
-/// Every event keeps that the writer and the rings' turns are held exactly by the commands that hold them, where each
-/// command has come no further than it can.
+/// Every event keeps that each command has come no further than it can, and that the writer and the rings' turns are
+/// held exactly by the commands that hold them.
 pub fn holders_are_kept()
     ensures { HoldersAreKept }
 {}
@@ -128,38 +175,4 @@ pub fn room_is_always_kept()
 pub fn hand_is_owners()
     ensures kept { HandIsKept }
     ensures reached { HandIsOwnersInRuns }
-{}
-
-/// No event of a world that a run reaches is refused for its names, where commands are numbered from 0 on.
-pub fn names_are_new()
-    ensures { NamesAreNew }
-{}
-
-/// So every event keeps a sound world sound, in all ten parts.
-pub fn soundness_is_kept()
-    ensures { SoundnessIsKept }
-{
-    vring_turns::receive_standing();
-    vring_turns::transmit_standing();
-    vhost_dev::rings_stay_good();
-    vhost_dev::lists_stay_in_order();
-}
-
-/// So each world that a run reaches is sound, and the one that it ends in, where declared first places are at most
-/// 2^40 - 1 and each vhost's guest has a region.
-pub fn runs_are_sound()
-    ensures reached { ReachedIsSound }
-    ensures ended { RunIsSound }
-{
-    vring_turns::receive_standing();
-    vring_turns::transmit_standing();
-    vhost_dev::rings_stay_good();
-    vhost_dev::lists_stay_in_order();
-}
-
-/// Every event keeps all parts of what is sound but what rings are, and they hold in each world that a run reaches,
-/// where declared first places are at most 2^40 - 1.
-pub fn sound_but_rings()
-    ensures kept { SoundButRingsIsKept }
-    ensures reached { ReachedIsSoundButRings }
 {}

@@ -1,11 +1,10 @@
 //! What commands answer.
 
 use crate::causes::{DriveText, VhostText};
-use tap_ledger::TapErr;
 use crate::turn::{ChainText, TurnText};
 use sqlite_items::Items;
 use tap_frame::{BadFrame, Name};
-use tap_ledger::Cause;
+use tap_ledger::{Cause, TapErr};
 
 /// What a command answered.
 #[derive(Debug, Drop)]

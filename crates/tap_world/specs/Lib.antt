@@ -19,6 +19,7 @@ pub mod Scripts
 pub mod Step
 pub mod Runs
 pub mod Project
+pub mod Each
 pub mod SoundRings
 pub mod SoundActors
 pub mod SoundTable

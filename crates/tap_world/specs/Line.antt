@@ -2,13 +2,11 @@
 -- and where each of them stands; and the conditions on the ring.
 use Rattle.std.specs.Prelude.{ℕ, ◌+◌, ◌-◌, ◌^◌, ◌==◌, ◌||◌, not, nat_le, if◌then◌else◌, List, [], ◌∷◌, length, Bool, true, false, Option, Some, None, is_some, is_none, option_map}
 use Rattle.std.specs.Option.{option_map_or}
-use Rattle.tap_frame.specs.declared.name.Name.{Name}
 use Rattle.tap_ledger.specs.declared.fate.Fate.{Fate}
 use Rattle.tap_ledger.specs.declared.fate.Fate.TheVariants.{Waiting, Discarded}
 use Rattle.tap_ledger.specs.declared.fate.Cause.TheVariants as cause
 use Rattle.tap_world.specs.declared.line.Standing.TheVariants.{Batched, Claimed, Cut, Out, Ready}
 use Rattle.tap_ground.specs.Options.{only_if}
-
 pub use Rattle.tap_world.specs.declared.line.Entry.{Entry}
 pub use Rattle.tap_world.specs.declared.line.Standing.{Standing}
 
@@ -81,7 +79,7 @@ last_that test (e ∷ es) = or_here (test e.stands) (last_that test es)
 abbrev pub claimed : File → ℕ
 claimed f = f.first + length f.line
 
--- the first place, and as many more as are free again: those of entries that are out, in the batch, or cut
+-- the first place, and as many more as there are entries whose place is free again: out, in the batch, or cut
 abbrev pub freed : File → ℕ
 freed f = f.first + count (λ s. not (in_ring s)) f.line
 
@@ -89,7 +87,7 @@ freed f = f.first + count (λ s. not (in_ring s)) f.line
 abbrev pub front_place : File → ℕ
 front_place f = option_map_or (λ i. f.first + i) (first_that in_ring f.line) (claimed f)
 
--- an entry's place in the list, where it is ready
+-- this place in the list, where the entry there is ready
 abbrev pub entry_ready : Option Entry → ℕ → Option ℕ
 entry_ready e i = only_if (option_map_or (λ (x : Entry). is_ready x.stands) e false) i
 

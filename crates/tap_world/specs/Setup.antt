@@ -115,8 +115,8 @@ device_in (command.SetIff file device flags) = Some device
 device_in (command.Send device hdr bytes) = Some device
 device_in other = None
 
--- What a command names is there: its file, guest and vhost are declared, its program has a place among the programs, and
--- the name is one of the scenario's.
+-- What a command names is there: its file, guest and vhost are declared, its program has a place among the programs,
+-- and the name is one of the scenario's.
 pub record NamesDeclared (s : Setup) (c : Command) : Type 0 where
   pub file : IfSome (file_of c) (λ file. IsSome (at s.files file))
   pub guest : IfSome (guest_of c) (λ guest. IsSome (at s.guests guest))

@@ -1,4 +1,6 @@
--- This project's own: what holds in every world that a run can reach, in ten parts, each of what it names.
+-- This project's own: what is sound of a world, in ten numbered parts. It holds in every world that a run can reach.
+-- Part 1 stands in SoundNames, part 6 in SoundTable, part 8 in SoundRings, and how far commands come, of part 10, in
+-- SoundActors.
 use Rattle.std.specs.Prelude.{◌≡◌, ℕ, ◌+◌, ◌-◌, ◌^◌, ◌≤◌, ◌⊎◌, ◌==◌, ◌&&◌, max, Bool, true, false, List, [], ◌∷◌, slice_get, Option, Some, None}
 use Rattle.std.specs.Option.{option_map_or}
 use Rattle.std.specs.List.{AllByRecursion, list_any}
@@ -6,10 +8,9 @@ use Rattle.tap_frame.specs.declared.name.Name.{Name}
 use Rattle.tap_frame.specs.Frame.{FrameValue}
 use Rattle.tap_ledger.specs.declared.fate.Fate.TheVariants as fate
 use Rattle.tap_steer.specs.Table.{Table, file_at}
-use Rattle.vring_turns.specs.Stage.{has_in_hand}
 use Rattle.tap_ground.specs.Options.{◌>>=◌}
-use Rattle.tap_world.specs.ByNumber.{at}
-use Rattle.tap_world.specs.Guests.{Vhost}
+use Rattle.vring_turns.specs.Stage.{has_in_hand}
+use Rattle.tap_world.specs.Each.{EachActor, EachFile, EachVhost}
 use Rattle.tap_world.specs.Setup.{Setup}
 use Rattle.tap_world.specs.Line.{Entry, File, Standing, claimed, count, first_that, freed, in_batch, is_empty, is_kept}
 use Rattle.tap_world.specs.declared.line.Standing.TheVariants.{Batched, Claimed, Cut, Out, Ready}
@@ -18,19 +19,8 @@ use Rattle.tap_world.specs.Stands.{same_name}
 use Rattle.tap_world.specs.World.Doing.{Backed, Backs, Begun, Changes, Disowned, Given, Hosts, Learns, Opened, Opens, Owns, Placed, Purges, Reads, Receives, Released, Resizes, Routed, Shrinks, Teaches, Transmits, Unbacked, Withdrawn, Withdraws}
 use Rattle.tap_world.specs.SoundActors.{CanBe}
 use Rattle.tap_world.specs.SoundNames.{NamesStandOnce}
-use Rattle.tap_world.specs.SoundRings.{HasRings, IsActor, IsServed, TurnsAreHeld, is_about}
-use Rattle.tap_world.specs.SoundTable.{AgreesWithTable, HasItsBackends, IsAsFound, IsInTable, commanded, writing}
-
--- ---- each file, each vhost, each actor
-
-abbrev pub EachFile : World → (ℕ → File → Type 0) → Type 0
-EachFile w P = (file : ℕ) (f : File) → at w.files file ≡ Some f → P file f
-
-abbrev pub EachVhost : World → (ℕ → Vhost → Type 0) → Type 0
-EachVhost w P = (vhost : ℕ) (v : Vhost) → at w.vhosts vhost ≡ Some v → P vhost v
-
-abbrev pub EachActor : World → (ℕ → Actor → Type 0) → Type 0
-EachActor w P = (actor : ℕ) (a : Actor) → slice_get w.actors actor ≡ Some a → P actor a
+use Rattle.tap_world.specs.SoundRings.{HaveRings, IsActor, TurnsAreHeld, is_about}
+use Rattle.tap_world.specs.SoundTable.{HasTable}
 
 -- ---- 2: lines
 
@@ -55,24 +45,31 @@ abbrev pub InThreeParts : List Entry → Type 0
 InThreeParts [] = Unit {0}
 InThreeParts (e ∷ es) = ((is_cut e.stands ≡ true) ⊎ ComesLast (rank e.stands) es) × InThreeParts es
 
+-- A line is in its three parts. The batch has at most 64. Claimed is at most 2 ^ 40 - 1.
+pub record IsOrdered (f : File) : Type 0 where
+  pub parts : InThreeParts f.line
+  pub batch : count in_batch f.line ≤ 64
+  pub places : claimed f ≤ 2 ^ 40 - 1
+
 -- an entry that is out has a fate other than Waiting
 abbrev pub has_left : Standing → Bool
 has_left (Out fate.Waiting) = false
 has_left other = true
 
--- the capacity that a file has in the table: between a resize and its publication, the one before it
+-- the capacity of a file by the table: the one before a resize, until that is published
 abbrev pub table_capacity : ℕ → Table → ℕ
 table_capacity file t = (file_at t file).capacity
 
--- Those that aren't cut are out, in the batch, or in the ring, in this order. An entry that is out has a fate. The batch
--- has at most 64. Claimed - freed is at most the capacity, or, between a resize and its publication, at most the greater
--- of this one and the table's. Claimed is at most 2 ^ 40 - 1.
-pub record HasRoom (before : ℕ) (f : File) : Type 0 where
-  pub parts : InThreeParts f.line
+-- A line is in order. An entry that is out has a fate. Claimed - freed is at most the capacity, or, between a resize
+-- and its publication, at most the greater of this one and the table's.
+pub record HasRoom (tabled : ℕ) (f : File) : Type 0 where
+  pub ordered : IsOrdered f
   pub fates : AllByRecursion (λ (e : Entry). has_left e.stands ≡ true) f.line
-  pub batch : count in_batch f.line ≤ 64
-  pub ring : claimed f ≤ freed f + max f.capacity before
-  pub places : claimed f ≤ 2 ^ 40 - 1
+  pub ring : claimed f ≤ freed f + max f.capacity tabled
+
+-- Each line is so, with the capacities of the newest table.
+abbrev pub HaveRoom : Setup → World → Type 0
+HaveRoom s w = EachFile w (λ file f. HasRoom (table_capacity file (table s w)) f)
 
 -- ---- 3: claims
 
@@ -141,7 +138,7 @@ HandIsOwners w file f =
 abbrev pub HasSeen : World → ℕ → Actor → Type 0
 HasSeen w actor a = a.seen ≤ newest w
 
--- ---- 10: who holds what
+-- ---- 10: actors
 
 -- a command holds the writer
 abbrev pub holds : Doing → Bool
@@ -175,23 +172,24 @@ holds (Teaches file t chains frame) = false
 abbrev pub WriterIsHeld : World → ℕ → Actor → Type 0
 WriterIsHeld w actor a = holds a.doing ≡ option_map_or (λ other. other == actor) w.writer false
 
--- ---- all ten
-
-pub record IsSound (s : Setup) (w : World) : Type 0 where
-  pub names : NamesStandOnce w
-  pub room : EachFile w (λ file f. HasRoom (table_capacity file (table s w)) f)
-  pub claims : EachFile w (ClaimIsHeld w)
-  pub epochs : EachFile w (λ file f. HasEpochs f)
-  pub shut : EachFile w (IsEmptyWhenShut w)
-  pub agrees : EachFile w (AgreesWithTable s w)
-  pub known : EachFile w (IsInTable s w)
-  pub backends : EachVhost w (HasItsBackends s w)
-  pub found : IsAsFound (writing w) (commanded w) (table s w)
-  pub hand : EachFile w (HandIsOwners w)
-  pub rings : EachVhost w (HasRings w)
-  pub served : EachVhost w (IsServed w)
-  pub seen : EachActor w (HasSeen w)
+-- Each command has come as far as it can and no further. The writer and the rings' turns are held exactly by the
+-- commands under way that hold them, which are actors'.
+pub record HaveActors (w : World) : Type 0 where
   pub stand : EachActor w (λ actor a. CanBe a)
   pub writer : EachActor w (WriterIsHeld w)
   pub turns : EachVhost w (TurnsAreHeld w)
   pub holders : IsActor w w.writer × EachVhost w (λ vhost v. IsActor w v.rx_turn × IsActor w v.tx_turn)
+
+-- ---- all ten
+
+pub record IsSound (s : Setup) (w : World) : Type 0 where
+  pub names : NamesStandOnce w  -- 1
+  pub lines : HaveRoom s w  -- 2
+  pub claims : EachFile w (ClaimIsHeld w)  -- 3
+  pub epochs : EachFile w (λ file f. HasEpochs f)  -- 4
+  pub shut : EachFile w (IsEmptyWhenShut w)  -- 5
+  pub tabled : HasTable s w  -- 6
+  pub hand : EachFile w (HandIsOwners w)  -- 7
+  pub rings : HaveRings w  -- 8
+  pub versions : EachActor w (HasSeen w)  -- 9
+  pub actors : HaveActors w  -- 10

@@ -1,5 +1,5 @@
--- This project's own: that each name stands once, and that the names of accepted frames stand.
-use Rattle.std.specs.Prelude.{◌≡◌, ◌⊎◌, ℕ, ◌≤◌, if◌then◌else◌, List, [], ◌∷◌, slice_get, Bool, true, false, Option, Some, None, option_map}
+-- This project's own: part 1 of what is sound. Each name stands once, and the names of accepted frames stand.
+use Rattle.std.specs.Prelude.{◌≡◌, ◌⊎◌, ℕ, ◌≤◌, if◌then◌else◌, List, [], ◌∷◌, Option, Some, None, option_map}
 use Rattle.std.specs.List.{AllByRecursion}
 use Rattle.tap_frame.specs.declared.name.Name.{Name}
 use Rattle.tap_frame.specs.Frame.{FrameValue}
@@ -9,6 +9,7 @@ use Rattle.tap_trace.specs.declared.answer.Answer.TheVariants as answer
 use Rattle.tap_trace.specs.declared.turn.ChainText.{ChainText}
 use Rattle.tap_trace.specs.declared.turn.ChainText.TheVariants as chain
 use Rattle.tap_world.specs.Setup.{Numbered}
+use Rattle.tap_world.specs.Each.{EachActor}
 use Rattle.tap_world.specs.World.{Actor, Doing, Said, World, current, name_of}
 use Rattle.tap_world.specs.World.Doing.{Backed, Backs, Begun, Changes, Disowned, Given, Hosts, Learns, Opened, Opens, Owns, Placed, Purges, Reads, Receives, Released, Resizes, Routed, Shrinks, Teaches, Transmits, Unbacked, Withdrawn, Withdraws}
 use Rattle.tap_world.specs.Stands.{times}
@@ -56,8 +57,8 @@ accepted_by actor n (Disowned file) = []
 accepted_by actor n (Released file) = []
 accepted_by actor n (Receives file t) = []
 
--- the one that is accepted, and is still to be dropped, placed or given to the host: a send's with a row, a write's, and
--- the one that a transmit turn is to give
+-- the one that is accepted, and is still to be dropped, placed or given to the host: a send's with a row, a write's,
+-- and the one that a transmit turn is to give
 abbrev pub awaited : ℕ → ℕ → Doing → Option Name
 awaited actor n (Routed file epoch len) = Some (name_of actor n)
 awaited actor n (Hosts file ether learns) = Some (name_of actor n)
@@ -78,9 +79,11 @@ AcceptedStand w actor a =
     → AllByRecursion (λ n. (awaited actor c.number a.doing ≡ Some n) ⊎ (times w n ≡ 1))
     (accepted_by actor c.number a.doing)
 
+-- ---- 1: names
+
 -- Each name stands at most once. An accepted name stands nowhere only in its own command, between the event that
 -- accepted it and the event that drops, places or hosts it.
 pub record NamesStandOnce (w : World) : Type 0 where
   pub once : (n : Name) → times w n ≤ 1
   pub ended : AllByRecursion (EndedStand w) w.said
-  pub accepted : (actor : ℕ) (a : Actor) → slice_get w.actors actor ≡ Some a → AcceptedStand w actor a
+  pub accepted : EachActor w (AcceptedStand w)

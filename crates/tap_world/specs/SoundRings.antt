@@ -1,4 +1,4 @@
--- This project's own: what holds of the rings of vhosts in every world of a run, and who holds their turns.
+-- This project's own: part 8 of what is sound, the rings of vhosts; and who holds their turns, for part 10.
 use Rattle.std.specs.Prelude.{◌≡◌, ℕ, ◌<◌, ◌==◌, ◌&&◌, Bool, true, false, slice_get, Option, Some, None, is_some}
 use Rattle.std.specs.Option.{option_map_or}
 use Rattle.scen_words.specs.declared.command.Command.{Command}
@@ -11,15 +11,16 @@ use Rattle.vhost_dev.specs.Lists.{AreInOrder}
 use Rattle.vring_turns.specs.Standing.{RxStands, TxStands}
 use Rattle.tap_ground.specs.Options.{only_if}
 use Rattle.tap_world.specs.ByNumber.{at}
+use Rattle.tap_world.specs.Each.{EachActor, EachVhost}
 use Rattle.tap_world.specs.Guests.{Guest, Vhost, is_ring, turn_of}
 use Rattle.tap_world.specs.Setup.{Numbered}
 use Rattle.tap_world.specs.World.{Actor, Doing, World, current}
 use Rattle.tap_world.specs.World.Doing.{Backed, Backs, Begun, Changes, Disowned, Given, Hosts, Learns, Opened, Opens, Owns, Placed, Purges, Reads, Receives, Released, Resizes, Routed, Shrinks, Teaches, Transmits, Unbacked, Withdrawn, Withdraws}
 
--- ---- 8: rings
+-- ---- rings
 
--- The lists of positions are in order, and the first of them has base 0 and begins with the first chain that was
--- published; the ring has a queue size; with a backend it lies in its guest.
+-- The lists of positions are in order, and the first of them begins with the first chain that was published, at base 0;
+-- the ring has a queue size; with a backend it lies in its guest.
 pub record IsRing (g : Guest) (r : RingSettings) : Type 0 where
   pub lists : AreInOrder r.lists r.queue.positions
   pub begun : BeginAtZero r.lists
@@ -104,14 +105,21 @@ Serves vhost ring a = (serves a.doing ≡ true) × (is_about vhost ring (current
 -- and stands with its turn.
 pub record IsServed (w : World) (vhost : ℕ) (v : Vhost) : Type 0 where
   pub idle : (ring : ℕ) → ring < 2
-      → ((actor : ℕ) (a : Actor) → slice_get w.actors actor ≡ Some a → Serves vhost ring a → ⊥)
+      → EachActor w (λ actor a. Serves vhost ring a → ⊥)
       → IsIdle (ring_at ring v.settings).queue.positions
   pub backed : (ring actor : ℕ) (a : Actor) → slice_get w.actors actor ≡ Some a → Serves vhost ring a
       → is_some (ring_at ring v.settings).file ≡ true
   pub stands : (ring actor : ℕ) (a : Actor) → slice_get w.actors actor ≡ Some a → Serves vhost ring a
       → StandsWith a.doing v
 
--- ---- 10: turns
+-- ---- 8: all rings
+
+-- Each ring is so, and each is served by none but the turn that stands with it.
+pub record HaveRings (w : World) : Type 0 where
+  pub rings : EachVhost w (HasRings w)
+  pub served : EachVhost w (IsServed w)
+
+-- ---- turns
 
 -- a command holds the turn of its ring: while it serves it, or is a backend that the table doesn't refuse
 abbrev pub holds_turn : Doing → Bool

@@ -1,5 +1,5 @@
--- This project's own: what files and the rings of vhosts have of the queue table in every world of a run, but for the
--- command that holds the writer.
+-- This project's own: part 6 of what is sound. Files and the rings of vhosts have what the queue table says in every
+-- world of a run, but for the command that holds the writer.
 use Rattle.std.specs.Prelude.{◌≡◌, ℕ, ◌+◌, ◌<◌, ◌==◌, ◌&&◌, ◌↔◌, not, if◌then◌else◌, length, slice_get, Bool, true, false, Option, Some, None}
 use Rattle.std.specs.Option.{option_map_or}
 use Rattle.tap_ledger.specs.declared.side.Side.{Side}
@@ -12,6 +12,7 @@ use Rattle.scen_words.specs.declared.command.Command.TheVariants as command
 use Rattle.tap_ground.specs.Options.{◌>>=◌}
 use Rattle.tap_world.specs.Guests.{Vhost, is_ring}
 use Rattle.tap_world.specs.Setup.{Setup}
+use Rattle.tap_world.specs.Each.{EachFile, EachVhost}
 use Rattle.tap_world.specs.Line.{File}
 use Rattle.tap_world.specs.StepTable.{is_enabled}
 use Rattle.tap_world.specs.StepBackend.{side_of}
@@ -131,3 +132,13 @@ IsAsFound (Backed file) (Some (command.Backend vhost ring asked)) t =
     (file < length t.files) × (backer (side_of ring) (file_at t file) ≡ None)
 IsAsFound (Owns file version) (Some (command.Backend vhost ring asked)) t = (file_at t file).rx ≡ Some vhost
 IsAsFound doing c t = Unit {0}
+
+-- ---- 6: the table
+
+-- Files are the table's and have what it says, and rings the backends that it says, but for the command that holds the
+-- writer; and what that command found is still so.
+pub record HasTable (s : Setup) (w : World) : Type 0 where
+  pub agrees : EachFile w (AgreesWithTable s w)
+  pub known : EachFile w (IsInTable s w)
+  pub backends : EachVhost w (HasItsBackends s w)
+  pub found : IsAsFound (writing w) (commanded w) (table s w)

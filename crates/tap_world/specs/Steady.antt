@@ -1,5 +1,5 @@
--- This project's own: what else holds in every world that a run of a laid scenario can reach, beside what is sound, in ten
--- parts. With both, the next event of each actor that needn't wait is allowed, and what an answer tells was so.
+-- This project's own: what else holds in every world that a run of a laid scenario can reach, beside what is sound, in
+-- ten parts. With both, the next event of each actor that needn't wait is allowed, and what an answer tells was so.
 use Rattle.std.specs.Prelude.{◌≡◌, ℕ, ◌+◌, ◌<◌, ◌≤◌, true, false, List, [], ◌++◌, length, map, slice_get, Option, Some, None, IfSome, IsSome, option_map}
 use Rattle.std.specs.List.{AllByRecursion}
 use Rattle.tap_frame.specs.declared.header.Hdr.{Hdr}
@@ -37,7 +37,8 @@ use Rattle.tap_world.specs.StepBackend.{back_refusal, side_of}
 use Rattle.tap_world.specs.StepTurns.{front_frame}
 use Rattle.tap_world.specs.Project.{answers_of}
 use Rattle.tap_world.specs.SoundTable.{commanded, writing}
-use Rattle.tap_world.specs.Sound.{EachActor, EachFile, holds, table_capacity}
+use Rattle.tap_world.specs.Each.{EachActor, EachFile}
+use Rattle.tap_world.specs.Sound.{holds, table_capacity}
 
 -- ---- 1: what is there
 
@@ -146,9 +147,9 @@ IsStillLawful s w =
 
 -- ---- 5: turns
 
--- A receive turn on a file has more to do. Its ring has the file as its backend, whose worker owns the file; its vhost's
--- settings are those that it began with; it is ready for its next step; and it has a frame in hand exactly where its
--- stage says so: the front of the file's batch.
+-- A receive turn on a file has more to do. Its ring has the file as its backend, whose worker owns the file; its
+-- vhost's settings are those that it began with; it is ready for its next step; and it has a frame in hand exactly where
+-- its stage says so: the front of the file's batch.
 pub record IsReceiving (s : Setup) (w : World) (vhost file : ℕ) (t : RxTurn) : Type 0 where
   pub v : Vhost
   pub f : File
@@ -164,8 +165,8 @@ pub record IsReceiving (s : Setup) (w : World) (vhost file : ℕ) (t : RxTurn) :
   pub front : has_in_hand t.stage ≡ true → front_frame s f ≡ t.held
 
 -- A transmit turn on a file, whose frames have the names from this one on, has more to do. Its ring has the file as its
--- backend; its vhost's header is that which it began with; it is ready for its next step; and the chain whose frame it is
--- to give is done, and not published yet.
+-- backend; its vhost's header is that which it began with; it is ready for its next step; and the chain whose frame it
+-- is to give is done, and not published yet.
 pub record IsSending (w : World) (vhost file : ℕ) (t : TxTurn) (first : Name) : Type 0 where
   pub v : Vhost
   pub is_vhost : at w.vhosts vhost ≡ Some v
@@ -213,7 +214,8 @@ pub record IsRouted (t : Table) (device : ℕ) (hdr : Option Hdr) (bytes : List 
   pub resizes : ℕ
   pub capacity : ℕ
   pub accepted : bad_in (sent_front hdr) (sent_bytes hdr bytes) ≡ None
-  pub selected : steer.select t device (ether_in (sent_front hdr) (sent_bytes hdr bytes)) ≡ Row row keep resizes capacity
+  pub selected :
+      steer.select t device (ether_in (sent_front hdr) (sent_bytes hdr bytes)) ≡ Row row keep resizes capacity
   pub file : row.file ≡ file
   pub epoch : row.epoch ≡ epoch
 
@@ -332,7 +334,8 @@ pub record IsShrinking (s : Setup) (w : World) (file places cuts asked : ℕ) : 
 -- Each resize under way is so.
 abbrev pub HasItsCuts : Setup → World → Actor → Type 0
 HasItsCuts s w a =
-    (n other asked file places cuts : ℕ) → current a.script ≡ Some (record { number = n; command = command.Resize other asked })
+    (n other asked file places cuts : ℕ)
+    → current a.script ≡ Some (record { number = n; command = command.Resize other asked })
     → a.doing ≡ Shrinks file places cuts → IsShrinking s w file places cuts asked
 
 -- ---- all ten

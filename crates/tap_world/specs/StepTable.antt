@@ -1,5 +1,5 @@
--- This project's own: the events Look and Publish of control commands, sends, reads and writes; those of backends and of
--- turns stand with theirs. Each row is what the event changes, and none where its condition doesn't hold.
+-- This project's own: the events Look and Publish of control commands, sends, reads and writes; those of backends and
+-- of turns stand with theirs. Each row is what the event changes, and none where its condition doesn't hold.
 use Rattle.std.specs.Prelude.{ℕ, ◌+◌, ◌&&◌, nat_lt, Bool, true, false, if◌then◌else◌, List, [], ◌∷◌, length, Option, Some, None, is_none}
 use Rattle.std.specs.Option.{option_map_or}
 use Rattle.tap_flow_key.specs.Fnv.{fnv_of}

@@ -92,7 +92,8 @@ abbrev pub gives : World → ℕ → ℕ → TxTurn → List ChainText → Vhost
 gives w seen file t chains v m = do
   f ← t.held
   made ← tx_step (tx_state t v m)
-  Some (record (only (Goes seen (Given file made.0.turn chains (with_host f)) (found.Moved f.name)) w) { hosts = f.name ∷ [] })
+  Some (record
+      (only (Goes seen (Given file made.0.turn chains (with_host f)) (found.Moved f.name)) w) { hosts = f.name ∷ [] })
 
 -- Look: its flow is to be learnt where the file learns
 abbrev pub looks_at_flow : Setup → World → Doing → Option Effect
@@ -142,7 +143,8 @@ hands s w actor seen (Receives file t) c = on_turn w c (λ vhost v m. takes s w 
 hands s w actor seen doing c = None
 
 abbrev pub turn_finds_none : World → ℕ → ℕ → Doing → Command → Option Effect
-turn_finds_none w actor seen (Receives file t) c = on_turn w c (λ vhost v m. finds_no_frame w actor seen vhost file t v m)
+turn_finds_none w actor seen (Receives file t) c =
+    on_turn w c (λ vhost v m. finds_no_frame w actor seen vhost file t v m)
 turn_finds_none w actor seen doing c = None
 
 abbrev pub hosts_of_turn : World → ℕ → Doing → Command → Option Effect

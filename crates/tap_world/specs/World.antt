@@ -12,7 +12,6 @@ use Rattle.tap_world.specs.Frames.{Front}
 use Rattle.tap_world.specs.Setup.{Numbered, Setup, opening_table}
 use Rattle.tap_world.specs.Line.{File}
 use Rattle.tap_world.specs.Guests.{Guest, Vhost}
-
 pub use Rattle.tap_world.specs.declared.told.Published.{Published}
 pub use Rattle.tap_world.specs.declared.told.Said.{Said}
 

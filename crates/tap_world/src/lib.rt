@@ -9,8 +9,9 @@
 //! table of the events of each command, in the forms of `specs/Grammar.antt`; `specs/Scripts.antt` says which event
 //! a command has next, `specs/Runs.antt` what a run is and which one a seed picks. What is to hold in every world of a
 //! run is in `specs/Sound.antt` over `specs/SoundNames.antt`, `specs/SoundTable.antt`, `specs/SoundRings.antt` and
-//! `specs/SoundActors.antt`; the trace of a run in `specs/Project.antt`, what this means in `specs/Laws.antt`, and a
-//! worked run in `specs/Examples.antt`.
+//! `specs/SoundActors.antt`, and what else holds there in `specs/Steady.antt`; which actors wait in
+//! `specs/Waiting.antt`; the trace of a run in `specs/Project.antt`, what this means in `specs/Laws.antt`, and a worked
+//! run in `specs/Examples.antt`.
 #![tactic(auto)]
 
 mod event;

@@ -3,8 +3,8 @@
 use tap_steer::Op;
 use tap_trace::AnswerLine;
 
-/// An operation of the queue table that was published. The operations of a world stand in the order of the versions that
-/// they made: the first made version 1.
+/// An operation of the queue table that was published. The operations of a world stand in the order of the versions
+/// that they made: the first made version 1.
 #[derive(Clone, Copy, Debug, PartialEq, Eq)]
 pub struct Published {
     /// The number of the phase, from 0.

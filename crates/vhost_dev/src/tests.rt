@@ -1,4 +1,4 @@
-//! The refusals of the control calls, the usual start of a queue pair, and a queue that is lent.
+//! The usual start of a queue pair, and a queue that is lent.
 ghost use Rattle.std.specs.Prelude.{◌≡◌, ◌<◌, Bool, IsTrue};
 ghost use Rattle.vhost_queue.specs.Positions.{served};
 ghost use Rattle.vhost_queue.specs.Queue.{most_gathered};
@@ -10,8 +10,7 @@ use super::*;
 use guest_mem::{Memory, Region};
 use std::process::Abort;
 use std::test::Fail;
-use tap_frame::Shape;
-use vring_split::{Layout, RingFault};
+use vring_split::Layout;
 
 // Nothing is served and not published.
 fn is_idle(dev: &VhostDev) -> bool
@@ -73,34 +72,6 @@ fn serve_one(dev: &mut VhostDev, rx: bool)
     dev.vq(rx).served();
 }
 
-const NO_HEADER: Shape = Shape {
-    pi: false,
-    hdr: None,
-};
-
-#[test]
-fn refuses_in_order(rt: HostRuntime) -> Result<(), Fail> {
-    let regions = [Region { addr: 0, len: 4096 }];
-    let mem = Memory::new(rt.alloc(), &regions)?;
-    let mut dev = VhostDev::new(rt.alloc())?;
-    for num in [3u64, 0, 65536] {
-        assert_eq!(rt; set_num(&rt, &mut dev, 0, num), Err(VhostErr::EINVAL));
-    }
-    assert_eq!(rt; set_num(&rt, &mut dev, 0, 32768), Ok(()));
-    assert_eq!(rt; set_num(&rt, &mut dev, 2, 4), Err(VhostErr::ENOBUFS));
-    assert_eq!(rt; back(&rt, &mut dev, 0, 5, &mem), Err(VhostErr::EFAULT));
-    assert_eq!(rt; set_num(&rt, &mut dev, 0, 4), Ok(()));
-    assert_eq!(rt; set_base(&rt, &mut dev, 0, 65536), Err(VhostErr::EINVAL));
-    assert_eq!(rt; back(&rt, &mut dev, 0, 5, &mem), Ok(()));
-    assert_eq!(rt; set_num(&rt, &mut dev, 0, 3), Err(VhostErr::EBUSY));
-    assert_eq!(rt; set_features(&rt, &mut dev, 1), Err(VhostErr::EBUSY));
-    assert_eq!(rt;
-        dev.fits(NO_HEADER),
-        Err(VhostErr::EHDR { want: 10, have: 0 })
-    );
-    Ok(())
-}
-
 #[test]
 fn starts_as_usual(rt: HostRuntime) -> Result<(), Fail> {
     let regions = [Region {
@@ -132,20 +103,5 @@ fn starts_as_usual(rt: HostRuntime) -> Result<(), Fail> {
     assert_eq!(rt; (dev.hdr(), dev.mrg()), (12, true));
     assert_eq!(rt; (dev.backend(true), dev.backend(false)), (None, Some(5)));
     assert_eq!(rt; dev.get_base(1), Ok(7));
-    Ok(())
-}
-
-#[test]
-fn a_stop_outlasts_an_unset(rt: HostRuntime) -> Result<(), Fail> {
-    let regions = [Region { addr: 0, len: 4096 }];
-    let mem = Memory::new(rt.alloc(), &regions)?;
-    let mut dev = VhostDev::new(rt.alloc())?;
-    back(&rt, &mut dev, 0, 5, &mem)?;
-    dev.vq(true).stop(RingFault::Order);
-    assert!(rt; is_idle(&dev));
-    assert_eq!(rt; dev.unset_backend(0), Ok(Some(5)));
-    assert_eq!(rt; dev.queue(true).stopped(), Some(RingFault::Order));
-    back(&rt, &mut dev, 0, 5, &mem)?;
-    assert_eq!(rt; dev.queue(true).stopped(), None);
     Ok(())
 }

@@ -2,7 +2,7 @@
 use Rattle.std.specs.Prelude.{◌≡◌, ℕ, Bool, ◌==◌, bit_and, bit_or, List, [], ◌∷◌, length, None, if◌then◌else◌}
 use Rattle.guest_mem.specs.Memory.{Contents, written}
 -- the 16-bit field at an address, and the memory with a number in it
-pub use Rattle.guest_mem.specs.Memory.{le16_at as field_at, with_le16 as with_field}
+unfoldable pub use Rattle.guest_mem.specs.Memory.{le16_at as field_at, with_le16 as with_field}
 use Rattle.vring_split.specs.Split.{avail_flags_addr, used_event_addr, used_flags_addr, used_idx_addr, used_entry_addr, avail_event_addr, used_elem_bytes, needs_event}
 use Rattle.vring_split.specs.declared.layout.Layout.{Layout}
 use Rattle.vhost_queue.specs.declared.done.Done.{Done}

@@ -7,7 +7,8 @@ use Rattle.vhost_queue.specs.Queue.{Reserved}
 use Rattle.vring_turns.specs.declared.stage.RxStage.TheVariants as stage
 use Rattle.vring_turns.specs.Ring.{Gathered, bytes_in, with_all_done}
 use Rattle.vring_turns.specs.ReceiveImage.{shares}
-use Rattle.vhost_rx.specs.Worker.{Worker, IsSteady, holds_at, stopped_at, counts_at}
+use Rattle.vring_turns.specs.Stage.{has_in_hand, rx_stopped_at}
+use Rattle.vhost_rx.specs.Worker.{Worker, IsSteady, counts_at}
 
 length-shares : (cs : List Gathered) (n : ℕ) → length (shares cs n) ≡ length cs
 length-shares [] n = refl
@@ -58,11 +59,11 @@ copied_steady w r n s e =
         layout = s.queue.layout;
         next = next-all_done ds r.queue.positions ∙ s.queue.next;
         gathered = omega (arith, s.queue.gathered);
-        stopped = s.queue.stopped ∙ ap stopped_at e;
+        stopped = s.queue.stopped ∙ ap rx_stopped_at e;
         done = λ h. cc;
       };
       chains = record {
-        held = s.chains.held ∙ ap holds_at e;
+        held = s.chains.held ∙ ap has_in_hand e;
         fewer = λ h. cc;
         short = λ h. cc;
         enough = λ h. cc;

@@ -10,7 +10,8 @@ use Rattle.vring_turns.specs.declared.end.End.{End}
 use Rattle.vring_turns.specs.declared.stage.RxStage.TheVariants as stage
 use Rattle.vring_turns.specs.ReceiveImage.{need_of}
 use Rattle.vring_turns.specs.RxTurn.{RxState, overrun, rx_outs, rx_puts_back, rx_with, rx_in_hand, rx_next, rx_step}
-use Rattle.vhost_rx.specs.Worker.{need_at, need_in}
+use Rattle.vring_turns.specs.Stage.{need_at}
+use Rattle.vhost_rx.specs.Worker.{need_in}
 
 out_by :
     (s after : RxState) (told : Act) (n : ℕ) (held : Option FrameValue)

@@ -13,13 +13,14 @@ use Rattle.vring_turns.specs.declared.stage.After.{After}
 use Rattle.vring_turns.specs.declared.stage.After.TheVariants as after
 use Rattle.vring_turns.specs.Ring.{Gathered, Ring, done_in, room_in, joined, all_rewound}
 use Rattle.vring_turns.specs.RxTurn.{quota, goes_on, rx_after_fetch, rx_after_second, rx_rewinds}
-use Rattle.vhost_rx.specs.Worker.{Worker, IsSteady, need_in, ring_of, holds_at, gathers_at, copies_at, stopped_at, publishes_at, counts_at, copies_after, few_done_at, fetch_stage}
+use Rattle.vring_turns.specs.Stage.{has_in_hand, gathers_at, copies_at, rx_stopped_at, rx_is_publishing}
+use Rattle.vhost_rx.specs.Worker.{Worker, IsSteady, need_in, ring_of, counts_at, copies_after, few_done_at, fetch_stage}
 
 -- a stage at which a chain is fetched
 pub record Gathering (st : RxStage) : Type 0 where
   pub gathers : gathers_at st ≡ true
-  pub holds : holds_at st ≡ true
-  pub stopped : stopped_at st ≡ None
+  pub holds : has_in_hand st ≡ true
+  pub stopped : rx_stopped_at st ≡ None
   pub counts : counts_at st ≡ true
   pub copies : copies_after st ≡ true
   pub few : few_done_at st ≡ true
@@ -42,8 +43,8 @@ loose : (w : Worker) (r : Reserved) (st : RxStage) → IsSteady w r → w.turn.s
 loose w r st s e g = record {
   layout = s.queue.layout;
   gathered = s.queue.gathered;
-  stopped = s.queue.stopped ∙ (ap stopped_at e ∙ g.stopped);
-  held = s.chains.held ∙ (ap holds_at e ∙ g.holds);
+  stopped = s.queue.stopped ∙ (ap rx_stopped_at e ∙ g.stopped);
+  held = s.chains.held ∙ (ap has_in_hand e ∙ g.holds);
   fewer = s.chains.fewer (ap gathers_at e ∙ g.gathers);
   short = s.chains.short (ap gathers_at e ∙ g.gathers);
   packets = s.places.packets (ap counts_at e ∙ g.counts);
@@ -66,9 +67,9 @@ reserved_in r ring = record { queue = ring.queue; reserved = r.reserved }
 
 -- what a stage says of the chains
 record Says (w : Worker) (ring : Ring) (st : RxStage) : Type 0 where
-  pub holds : holds_at st ≡ true
-  pub unpublished : publishes_at st ≡ false
-  pub stopped : ring.queue.stopped ≡ stopped_at st
+  pub holds : has_in_hand st ≡ true
+  pub unpublished : rx_is_publishing st ≡ false
+  pub stopped : ring.queue.stopped ≡ rx_stopped_at st
   pub fewer : gathers_at st ≡ true → length ring.chains < quota w.turn.mergeable
   pub short : gathers_at st ≡ true → room_in ring.chains < need_in w.turn
   pub enough : copies_at st ≡ true → need_in w.turn ≤ room_in ring.chains
@@ -90,7 +91,7 @@ steady_at w r ring st l k s = record {
     next = refl;
     gathered = k.gathered;
     stopped = s.stopped;
-    done = λ h. absurd (clash (publishes_at st) h s.unpublished);
+    done = λ h. absurd (clash (rx_is_publishing st) h s.unpublished);
   };
   chains = record {
     held = l.held ∙ sym s.holds;
@@ -117,7 +118,7 @@ keeps_none : (r : Reserved) (ring : Ring) → Keeps r ring → Keeps r (all_rewo
 keeps_none r ring k = record { layout = k.layout; done = k.done; gathered = omega (arith, k.gathered) }
 
 no_chain : (w : Worker) (ring : Ring) (st : RxStage)
-    → holds_at st ≡ true → publishes_at st ≡ false → ring.queue.stopped ≡ stopped_at st
+    → has_in_hand st ≡ true → rx_is_publishing st ≡ false → ring.queue.stopped ≡ rx_stopped_at st
     → gathers_at st ≡ false → copies_at st ≡ false → 0 < quota w.turn.mergeable
     → Says w (all_rewound ring) st
 no_chain w ring st h u s g c q = record {
@@ -149,7 +150,7 @@ keeps_joined w r (Bad fault) segments l = record { layout = refl; done = refl; g
 
 -- chains that go on being gathered
 more_says : (w : Worker) (ring : Ring) (st : RxStage)
-    → holds_at st ≡ true → publishes_at st ≡ false → ring.queue.stopped ≡ stopped_at st
+    → has_in_hand st ≡ true → rx_is_publishing st ≡ false → ring.queue.stopped ≡ rx_stopped_at st
     → gathers_at st ≡ true → copies_at st ≡ false
     → length ring.chains < quota w.turn.mergeable → room_in ring.chains < need_in w.turn
     → Says w ring st
@@ -169,7 +170,7 @@ more_says w ring st h u s g c fewer short = record {
 
 -- chains that hold the frame
 enough_says : (w : Worker) (ring : Ring) (st : RxStage)
-    → holds_at st ≡ true → publishes_at st ≡ false → ring.queue.stopped ≡ stopped_at st
+    → has_in_hand st ≡ true → rx_is_publishing st ≡ false → ring.queue.stopped ≡ rx_stopped_at st
     → gathers_at st ≡ false → copies_at st ≡ true
     → length ring.chains ≤ quota w.turn.mergeable → need_in w.turn ≤ room_in ring.chains
     → Says w ring st

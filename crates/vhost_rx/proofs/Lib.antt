@@ -3,3 +3,4 @@ mod Takes
 mod Fetched
 mod Copied
 mod Events
+mod Readies

@@ -6,8 +6,7 @@ use Rattle.vring_walk.specs.declared.walk.Fetched.{Fetched}
 use Rattle.vring_walk.specs.declared.walk.Fetched.TheVariants.{Chain, Nothing, Bad, Crowded}
 use Rattle.vring_walk.specs.Chain.{Look, Cover}
 use Rattle.vring_walk.specs.Fetch.{Fetches}
-use Rattle.vring_turns.specs.Ring.{Gathered}
-use Rattle.vhost_rx.specs.Chains.{with_found}
+use Rattle.vring_turns.specs.Ring.{Gathered, with_found}
 
 -- the room stays
 pub room_stays :

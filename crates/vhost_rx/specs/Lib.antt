@@ -1,4 +1,3 @@
 pub mod Kept
-pub mod Chains
 pub mod Worker
 pub mod View

@@ -2,23 +2,22 @@
 use Rattle.std.specs.Prelude.{◌≡◌, ℕ, ◌+◌, ◌<◌, ◌≤◌, Bool, true, false, length, Option, None, Some, is_some}
 use Rattle.std.specs.Option.{option_map}
 use Rattle.guest_mem.specs.Memory.{Contents}
-use Rattle.vring_split.specs.declared.fault.RingFault.{RingFault}
 use Rattle.vring_split.specs.declared.layout.Layout.{Layout}
 use Rattle.vhost_queue.specs.Queue.{Queue, Reserved, turn_places}
 use Rattle.tap_frame.specs.declared.name.Name.{Name}
-use Rattle.tap_frame.specs.Frame.{FrameValue}
 use Rattle.tap_ledger.specs.declared.act.Act.{Act}
 use Rattle.vring_turns.specs.declared.end.End.{End}
 use Rattle.vring_turns.specs.declared.end.End.TheVariants.{Off, NoMemory}
 use Rattle.vring_turns.specs.declared.stage.RxStage.{RxStage}
 use Rattle.vring_turns.specs.declared.stage.RxStage.TheVariants as stage
-use Rattle.vring_turns.specs.declared.stage.After.TheVariants as after
 use Rattle.vring_turns.specs.Ring.{Ring, done_in, room_in}
-use Rattle.vring_turns.specs.ReceiveImage.{need_of}
+use Rattle.vring_turns.specs.Turn.{most_packets, most_bytes, most_chains, publishes_at}
+use Rattle.vring_turns.specs.Stage.{need_at, has_in_hand, gathers_at, copies_at, rx_stopped_at, rx_is_publishing, rx_is_over}
 use Rattle.vring_turns.specs.RxTurn.{RxTurn, RxState, quota, rx_at, rx_hands, rx_step, rx_without_event}
 use Rattle.vring_turns.specs.declared.step.Step.{Step}
+use Rattle.vring_turns.specs.Standing.{RxStands}
+use Rattle.vring_turns.specs.Ready.{RxReady}
 use Rattle.vring_turns.specs.Hands.{Hands, Moves}
-use Rattle.vring_turns.specs.Turn.{fault_of}
 use Rattle.tap_ledger.specs.declared.hand.Hand.{Hand}
 use Rattle.tap_ledger.specs.declared.hand.Hand.TheVariants as hand
 use Rattle.tap_ledger.specs.Queue.{QueueState}
@@ -38,75 +37,62 @@ abbrev pub ring_of : Worker → Queue → Ring
 ring_of w q = record { queue = q; chains = w.turn.chains }
 
 -- how many bytes the frame in hand needs
-abbrev pub need_at : ℕ → Option FrameValue → ℕ
-need_at size None = 0
-need_at size (Some frame) = need_of size frame
-
 abbrev pub need_in : RxTurn → ℕ
 need_in t = need_at t.header t.held
 
 -- What a stage says.
-
--- a frame is in hand
-abbrev pub holds_at : RxStage → Bool
-holds_at stage.Begin = false
-holds_at stage.Hand = false
-holds_at (stage.Publish end) = false
-holds_at (stage.Ended end) = false
-holds_at other = true
-
--- more chains are gathered for it
-abbrev pub gathers_at : RxStage → Bool
-gathers_at stage.Fetch = true
-gathers_at stage.NoticesOn = true
-gathers_at stage.FetchAgain = true
-gathers_at (stage.NoticesOff after.Fetch) = true
-gathers_at other = false
-
--- they hold it
-abbrev pub copies_at : RxStage → Bool
-copies_at stage.Copy = true
-copies_at (stage.NoticesOff after.Copy) = true
-copies_at other = false
-
--- the fault that stopped the ring in this turn
-abbrev pub stopped_at : RxStage → Option RingFault
-stopped_at (stage.NoticesOff (after.PutBack end)) = fault_of end
-stopped_at (stage.PutBack end) = fault_of end
-stopped_at (stage.Publish (Some end)) = fault_of end
-stopped_at (stage.Ended end) = fault_of end
-stopped_at other = None
 
 -- the stage of a first fetch, or of one more
 abbrev pub fetch_stage : Bool → RxStage
 fetch_stage false = stage.Fetch
 fetch_stage true = stage.FetchAgain
 
--- something is there to be published
-abbrev pub publishes_at : RxStage → Bool
-publishes_at (stage.Publish end) = true
-publishes_at other = false
-
 -- one more packet may be counted
 abbrev pub counts_at : RxStage → Bool
+counts_at stage.Begin = true
+counts_at stage.Hand = true
+counts_at stage.Fetch = true
+counts_at stage.NoticesOn = true
+counts_at stage.FetchAgain = true
+counts_at (stage.NoticesOff way) = true
+counts_at stage.Copy = true
+counts_at stage.Out = true
+counts_at (stage.Discard had) = true
 counts_at (stage.PutBack end) = false
+counts_at (stage.Publish None) = true
 counts_at (stage.Publish (Some end)) = false
 counts_at (stage.Ended end) = false
-counts_at other = true
 
 -- and chains may be done for it
 abbrev pub copies_after : RxStage → Bool
+copies_after stage.Begin = true
+copies_after stage.Hand = true
+copies_after stage.Fetch = true
+copies_after stage.NoticesOn = true
+copies_after stage.FetchAgain = true
+copies_after (stage.NoticesOff way) = true
+copies_after stage.Copy = true
 copies_after stage.Out = false
-copies_after other = counts_at other
+copies_after (stage.Discard had) = true
+copies_after (stage.PutBack end) = false
+copies_after (stage.Publish None) = true
+copies_after (stage.Publish (Some end)) = false
+copies_after (stage.Ended end) = false
 
 -- few chains are done
 abbrev pub few_done_at : RxStage → Bool
+few_done_at stage.Begin = true
+few_done_at stage.Hand = true
+few_done_at stage.Fetch = true
+few_done_at stage.NoticesOn = true
+few_done_at stage.FetchAgain = true
+few_done_at (stage.NoticesOff way) = true
+few_done_at stage.Copy = true
+few_done_at stage.Out = false
+few_done_at (stage.Discard had) = true
+few_done_at (stage.PutBack end) = false
 few_done_at (stage.Publish end) = false
-few_done_at other = copies_after other
-
-abbrev pub is_over : RxStage → Bool
-is_over (stage.Ended end) = true
-is_over other = false
+few_done_at (stage.Ended end) = false
 
 -- Fitting together.
 
@@ -115,25 +101,29 @@ pub record IsSameQueue (w : Worker) (q : Queue) : Type 0 where
   pub layout : q.layout ≡ w.layout
   pub next : q.positions.next ≡ w.next
   pub gathered : q.positions.gathered ≡ length w.turn.chains
-  pub stopped : q.stopped ≡ stopped_at w.turn.stage
-  pub done : publishes_at w.turn.stage ≡ true → 0 < done_in q
+  pub stopped : q.stopped ≡ rx_stopped_at w.turn.stage
+  pub done : rx_is_publishing w.turn.stage ≡ true → 0 < done_in q
 
 -- the worker holds a frame where its stage says so; its chains are fewer than they may be and too short for it, or
 -- hold it, or there are none
 pub record HasChains (t : RxTurn) : Type 0 where
-  pub held : is_some t.held ≡ holds_at t.stage
+  pub held : is_some t.held ≡ has_in_hand t.stage
   pub fewer : gathers_at t.stage ≡ true → length t.chains < quota t.mergeable
   pub short : gathers_at t.stage ≡ true → room_in t.chains < need_in t
   pub enough : copies_at t.stage ≡ true → need_in t ≤ room_in t.chains
   pub most : length t.chains ≤ quota t.mergeable
   pub none : gathers_at t.stage ≡ false → copies_at t.stage ≡ false → length t.chains ≡ 0
 
+-- a turn that stands rightly and is ready has them so
+abbrev pub ReadyTurnsHaveChains : Type 0
+ReadyTurnsHaveChains = (t : RxTurn) (q : Queue) → RxStands t q → RxReady t q → HasChains t
+
 -- it has not done enough where it goes on, and there are places for what it may still publish
 pub record HasPlaces (t : RxTurn) (r : Reserved) : Type 0 where
-  pub packets : counts_at t.stage ≡ true → t.packets < 256
-  pub bytes : counts_at t.stage ≡ true → t.bytes < 524288
-  pub handled : copies_after t.stage ≡ true → t.handled < 1024
-  pub few : few_done_at t.stage ≡ true → done_in r.queue < 64
+  pub packets : counts_at t.stage ≡ true → t.packets < most_packets
+  pub bytes : counts_at t.stage ≡ true → t.bytes < most_bytes
+  pub handled : copies_after t.stage ≡ true → t.handled < most_chains
+  pub few : few_done_at t.stage ≡ true → done_in r.queue < publishes_at
   pub reserved : turn_places + done_in r.queue ≤ r.reserved + t.handled
 
 pub record IsSteady (w : Worker) (r : Reserved) : Type 0 where
@@ -144,7 +134,7 @@ pub record IsSteady (w : Worker) (r : Reserved) : Type 0 where
 -- and the turn isn't over: one more step may be made
 pub record Fits (w : Worker) (r : Reserved) : Type 0 where
   pub steady : IsSteady w r
-  pub going : is_over w.turn.stage ≡ false
+  pub going : rx_is_over w.turn.stage ≡ false
 
 -- the name of the frame that the worker has in hand
 abbrev pub name_in_hand : Worker → Option Name

@@ -4,9 +4,8 @@ ghost use Rattle.guest_mem.specs.Memory.{byte_at, covers};
 ghost use Rattle.vring_split.specs.Good.{IsGoodFor};
 ghost use Rattle.vring_walk.specs.Spread.{laid};
 ghost use Rattle.vhost_queue.specs.Queue.{room_of};
-ghost use Rattle.vring_turns.specs.Ring.{LieIn, bytes_in, room_in, segments_of, with_all_done};
+ghost use Rattle.vring_turns.specs.Ring.{LieIn, bytes_in, room_in, segments_of, with_all_done, found_behind, with_found};
 ghost use Rattle.vring_turns.specs.ReceiveImage.{shares};
-ghost use Rattle.vhost_rx.specs.Chains.{found_behind, with_found};
 ghost use Rattle.vhost_rx.specs.Kept.{kept_shares};
 
 use guest_mem::Memory;
@@ -14,11 +13,8 @@ use std::alloc::{AllocError, Global};
 use std::marker::Model;
 use vhost_queue::Vq;
 use vring_split::Layout;
-use vring_turns::lie_in;
+use vring_turns::{MOST_QUOTA, lie_in};
 use vring_walk::{Fetched, Segment, Segments, chains_are_usable, fetch, scatter};
-
-/// How many chains one frame may go into.
-const MOST_CHAINS: usize = 1024;
 
 /// A chain that is gathered: its head, and how many segments and bytes it has.
 #[derive(Clone, Copy, Debug, PartialEq, Eq)]
@@ -86,7 +82,7 @@ impl Chains {
         ensures { IfOk result (λ c. c ≡ []) }
     {
         Ok(Chains {
-            kept: Vec::with_capacity(alloc, MOST_CHAINS)?,
+            kept: Vec::with_capacity(alloc, MOST_QUOTA)?,
             room: Segments::new(alloc)?,
             had: 0,
         })

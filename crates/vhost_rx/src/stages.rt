@@ -1,13 +1,14 @@
 //! What the worker's stage says.
 ghost use Rattle.std.specs.Prelude.{◌≡◌};
-ghost use Rattle.vhost_rx.specs.Worker.{holds_at, gathers_at, copies_at, stopped_at, publishes_at, counts_at, copies_after, few_done_at};
+ghost use Rattle.vring_turns.specs.Stage.{has_in_hand, gathers_at, copies_at, rx_stopped_at, rx_is_publishing};
+ghost use Rattle.vhost_rx.specs.Worker.{counts_at, copies_after, few_done_at};
 
 use vring_split::RingFault;
 use vring_turns::{After, End, RxStage};
 
 /// Whether a frame is in hand.
-pub fn holds_at(stage: RxStage) -> bool
-    ensures { result ≡ holds_at stage }
+pub fn has_in_hand(stage: RxStage) -> bool
+    ensures { result ≡ has_in_hand stage }
 {
     !matches!(
         stage,
@@ -42,7 +43,7 @@ pub fn copies_at(stage: RxStage) -> bool
 
 /// The fault that stopped the ring in this turn.
 pub fn stopped_at(stage: RxStage) -> Option<RingFault>
-    ensures { result ≡ stopped_at stage }
+    ensures { result ≡ rx_stopped_at stage }
 {
     match stage {
         RxStage::NoticesOff {
@@ -55,8 +56,8 @@ pub fn stopped_at(stage: RxStage) -> Option<RingFault>
 }
 
 /// Whether something is there to be published.
-pub fn publishes_at(stage: RxStage) -> bool
-    ensures { result ≡ publishes_at stage }
+pub fn is_publishing(stage: RxStage) -> bool
+    ensures { result ≡ rx_is_publishing stage }
 {
     matches!(stage, RxStage::Publish { .. })
 }

@@ -6,7 +6,8 @@ ghost use Rattle.vring_turns.specs.Ring.{LieIn, found};
 ghost use Rattle.vring_turns.specs.RxTurn.{rx_after_packet, rx_copies, rx_publishes, rx_outs, rx_puts_back, rx_told, overrun, quota};
 ghost use Rattle.tap_ledger.specs.Queue.{IsFinal, finished, put_back};
 ghost use Rattle.vring_turns.specs.Turn.{event_of, IfMore};
-ghost use Rattle.vhost_rx.specs.Worker.{HandsOut, Ended, EndsUntold, Stepped, is_over, name_in_hand, counts_at, holds_at, IsSteady, Fits, Changes, state_of, need_in, ended_by};
+ghost use Rattle.vring_turns.specs.Stage.{has_in_hand, rx_is_over};
+ghost use Rattle.vhost_rx.specs.Worker.{HandsOut, Ended, EndsUntold, Stepped, name_in_hand, counts_at, IsSteady, Fits, Changes, state_of, need_in, ended_by};
 
 use crate::front::front_of;
 use crate::worker::{RxStep, RxWorker};
@@ -99,7 +100,7 @@ impl RxWorker {
     fn out<Q: FrameQueue>(&mut self, vq: &Vq, q: &mut Q, fate: Fate, bytes: u32) -> Act
         requires steady { IsSteady self.old vq.now }
         requires counts { counts_at self.old.turn.stage ≡ true }
-        requires holds { holds_at self.old.turn.stage ≡ true }
+        requires holds { has_in_hand self.old.turn.stage ≡ true }
         requires none { self.old.turn.chains ≡ [] }
         requires may_be { IsFinal fate }
         requires small { bytes ≤ 65547 }
@@ -227,7 +228,7 @@ impl RxWorker {
     fn told(&self, act: Act) -> RxStep
         ensures told { result ≡ rx_told self.now.turn self.now.turn.stage act }
         ensures event { event_of result ≡ Some act }
-        ensures more { IfMore result (is_over self.now.turn.stage ≡ false) }
+        ensures more { IfMore result (rx_is_over self.now.turn.stage ≡ false) }
     {
         match self.stage {
             RxStage::Ended(end) => RxStep::Ended {

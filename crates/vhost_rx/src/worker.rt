@@ -10,7 +10,8 @@ ghost use Rattle.vring_turns.specs.RxTurn.{rx_begun, rx_report, quota};
 
 use crate::chains::Chains;
 use crate::stages::{
-    copies_after, copies_at, counts_at, few_done_at, gathers_at, holds_at, publishes_at, stopped_at,
+    copies_after, copies_at, counts_at, few_done_at, gathers_at, has_in_hand, is_publishing,
+    stopped_at,
 };
 use guest_mem::Memory;
 use std::alloc::{AllocError, Global};
@@ -18,7 +19,9 @@ use std::marker::Model;
 use tap_frame::{Frame, Name};
 use vhost_queue::Vq;
 use vring_split::Layout;
-use vring_turns::{End, RxStage, Step, TurnEnd};
+use vring_turns::{
+    End, MOST_BYTES, MOST_CHAINS, MOST_PACKETS, MOST_QUOTA, PUBLISHES_AT, RxStage, Step, TurnEnd,
+};
 
 /// What a step of a receive worker answers.
 pub type RxStep = Step;
@@ -52,7 +55,8 @@ impl Model for RxWorker {
 }
 
 impl RxWorker {
-    ghost use Rattle.vhost_rx.specs.Worker.{Fits, IsSameQueue, HasChains, HasPlaces, is_over, name_in_hand, need_in};
+    ghost use Rattle.vhost_rx.specs.Worker.{Fits, IsSameQueue, HasChains, HasPlaces, name_in_hand, need_in};
+    ghost use Rattle.vring_turns.specs.Stage.{rx_is_over};
 
     /// A worker for one turn on a ring's queue, whose frames may go into several chains where `mergeable`
     /// says so, and have a header of `hdr` bytes, 10 or 12, in front of them: 12 where they may. It reserves
@@ -111,6 +115,13 @@ impl RxWorker {
         }
     }
 
+    /// Where the turn stands: which step comes next.
+    pub fn stage(&self) -> RxStage
+        ensures { result ≡ self.now.turn.stage }
+    {
+        self.stage
+    }
+
     /// Whether the ring's queue is the one of `begin`, changed since by this worker's steps alone, as far as
     /// the numbers that both keep can tell, and the turn isn't over. It takes the same time whatever the
     /// turn did.
@@ -130,7 +141,7 @@ impl RxWorker {
 
     // Whether the turn is over.
     fn is_over(&self) -> bool
-        ensures { result ≡ is_over self.now.turn.stage }
+        ensures { result ≡ rx_is_over self.now.turn.stage }
     {
         matches!(self.stage, RxStage::Ended(_))
     }
@@ -143,7 +154,7 @@ impl RxWorker {
             && vq.position() == self.next
             && usize::from(vq.gathered()) == self.chains.len()
             && vq.stopped() == stopped_at(self.stage)
-            && (vq.unpublished() > 0 || !publishes_at(self.stage))
+            && (vq.unpublished() > 0 || !is_publishing(self.stage))
     }
 
     // Whether the frame and the chains are as the stage says.
@@ -153,7 +164,7 @@ impl RxWorker {
         let gathers = gathers_at(self.stage);
         let copies = copies_at(self.stage);
         let need = u64::from(self.need());
-        self.held.is_some() == holds_at(self.stage)
+        self.held.is_some() == has_in_hand(self.stage)
             && (!gathers || self.chains.len() < self.quota())
             && (!gathers || self.chains.had() < need)
             && (!copies || need <= self.chains.had())
@@ -166,10 +177,10 @@ impl RxWorker {
         ensures { IsTrue result ↔ HasPlaces self.now.turn vq.now }
     {
         let counts = counts_at(self.stage);
-        (!counts || self.packets < 256)
-            && (!counts || self.bytes < 524_288)
-            && (!copies_after(self.stage) || self.handled < 1024)
-            && (!few_done_at(self.stage) || vq.unpublished() < 64)
+        (!counts || self.packets < MOST_PACKETS)
+            && (!counts || self.bytes < MOST_BYTES)
+            && (!copies_after(self.stage) || self.handled < MOST_CHAINS)
+            && (!few_done_at(self.stage) || vq.unpublished() < PUBLISHES_AT)
             && (2047 + u64::from(vq.unpublished())).saturating_sub(u64::from(self.handled))
                 <= vq.reserved() as u64
     }
@@ -189,7 +200,7 @@ impl RxWorker {
     pub(crate) fn quota(&self) -> usize
         ensures { result ≡ quota self.now.turn.mergeable }
     {
-        if self.mergeable { 1024 } else { 1 }
+        if self.mergeable { MOST_QUOTA } else { 1 }
     }
 
     /// What the turn did so far, with an end.

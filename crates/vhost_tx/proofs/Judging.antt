@@ -4,8 +4,8 @@ use Rattle.tap_frame.specs.declared.name.Name.{Name}
 use Rattle.tap_frame.specs.declared.reading.BadFrame.{BadFrame}
 use Rattle.tap_frame.specs.Frame.{FrameValue}
 use Rattle.vring_turns.specs.TransmitBytes.{refusal_of, frame_of}
-use Rattle.vhost_tx.specs.declared.gather.Judged.{Judged}
-use Rattle.vhost_tx.specs.declared.gather.Judged.TheVariants.{Accepted, Refused}
+use Rattle.vhost_tx.specs.declared.copying.Judged.{Judged}
+use Rattle.vhost_tx.specs.declared.copying.Judged.TheVariants.{Accepted, Refused}
 use Rattle.vhost_tx.specs.Copying.{IsJudged}
 
 -- as what was made of them

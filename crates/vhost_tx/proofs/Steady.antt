@@ -6,7 +6,8 @@ use Rattle.vring_turns.specs.declared.end.End.TheVariants.{Stopped}
 use Rattle.vring_turns.specs.declared.stage.TxStage.TheVariants.{NoticesOff, Publish, Ended}
 use Rattle.vring_turns.specs.Ring.{done_in}
 use Rattle.vring_turns.specs.TxTurn.{at_stage, tx_after_notices}
-use Rattle.vhost_tx.specs.Worker.{Worker, IsSteady, chains_at, holds_at, stopped_at, goes_on_at}
+use Rattle.vring_turns.specs.Stage.{is_giving, chains_at, tx_stopped_at}
+use Rattle.vhost_tx.specs.Worker.{Worker, IsSteady, goes_on_at}
 
 -- where it ends with a fault, it publishes first where anything is done
 closing_steady :
@@ -21,12 +22,12 @@ closing_steady w r fault true some s e = record {
     layout = s.queue.layout;
     next = s.queue.next;
     gathered = s.queue.gathered ∙ ap chains_at e;
-    stopped = s.queue.stopped ∙ ap stopped_at e;
+    stopped = s.queue.stopped ∙ ap tx_stopped_at e;
     done = λ h. cc;
   };
   numbers = record {
     chains = s.numbers.chains ∙ ap chains_at e;
-    held = s.numbers.held ∙ ap holds_at e;
+    held = s.numbers.held ∙ ap is_giving e;
     more = λ h. cc;
     few = s.numbers.few;
     room = s.numbers.room;
@@ -37,12 +38,12 @@ closing_steady w r fault false some s e = record {
     layout = s.queue.layout;
     next = s.queue.next;
     gathered = s.queue.gathered ∙ ap chains_at e;
-    stopped = s.queue.stopped ∙ ap stopped_at e;
+    stopped = s.queue.stopped ∙ ap tx_stopped_at e;
     done = λ h. some refl;
   };
   numbers = record {
     chains = s.numbers.chains ∙ ap chains_at e;
-    held = s.numbers.held ∙ ap holds_at e;
+    held = s.numbers.held ∙ ap is_giving e;
     more = λ h. cc;
     few = s.numbers.few;
     room = s.numbers.room;
@@ -62,12 +63,12 @@ off_steady w r None s e = record {
     layout = s.queue.layout;
     next = s.queue.next;
     gathered = s.queue.gathered ∙ ap chains_at e;
-    stopped = s.queue.stopped ∙ ap stopped_at e;
+    stopped = s.queue.stopped ∙ ap tx_stopped_at e;
     done = λ h. cc;
   };
   numbers = record {
     chains = s.numbers.chains ∙ ap chains_at e;
-    held = s.numbers.held ∙ ap holds_at e;
+    held = s.numbers.held ∙ ap is_giving e;
     more = λ h. s.numbers.more (ap goes_on_at e);
     few = s.numbers.few;
     room = s.numbers.room;

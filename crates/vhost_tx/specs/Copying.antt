@@ -7,8 +7,8 @@ use Rattle.vring_turns.specs.declared.stage.TxStage.TheVariants.{Give}
 use Rattle.vring_turns.specs.Ring.{Gathered}
 use Rattle.vring_turns.specs.TransmitBytes.{bytes_of_chain, counted, refusal_of, frame_of}
 use Rattle.vring_turns.specs.TxTurn.{TxTurn}
-use Rattle.vhost_tx.specs.declared.gather.Judged.{Judged}
-use Rattle.vhost_tx.specs.declared.gather.Judged.TheVariants.{Accepted, Refused, NoMemory}
+use Rattle.vhost_tx.specs.declared.copying.Judged.{Judged}
+use Rattle.vhost_tx.specs.declared.copying.Judged.TheVariants.{Accepted, Refused, NoMemory}
 
 -- the turn with one more packet, of so many bytes, whose chain is done
 abbrev pub counting : ℕ → TxTurn → TxTurn

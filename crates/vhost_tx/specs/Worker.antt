@@ -1,16 +1,16 @@
 -- This project's own: what a transmit worker is to a contract, and how it and its queue fit together between two steps.
 use Rattle.std.specs.Prelude.{◌≡◌, ℕ, ◌+◌, ◌<◌, ◌≤◌, Bool, true, false, length, Option, None, Some, is_some}
 use Rattle.guest_mem.specs.Memory.{Contents}
-use Rattle.vring_split.specs.declared.fault.RingFault.{RingFault}
 use Rattle.vring_split.specs.declared.layout.Layout.{Layout}
 use Rattle.vhost_queue.specs.Queue.{Queue, Reserved, room_of, most_done}
 use Rattle.tap_ledger.specs.declared.act.Act.{Act}
 use Rattle.tap_ledger.specs.Host.{HostState}
 use Rattle.vring_turns.specs.declared.end.End.TheVariants.{NoMemory}
 use Rattle.vring_turns.specs.declared.stage.TxStage.{TxStage}
-use Rattle.vring_turns.specs.declared.stage.TxStage.TheVariants.{NoticesOff, Copy, Give, Publish, Ended}
+use Rattle.vring_turns.specs.declared.stage.TxStage.TheVariants.{Begin, Fetch, NoticesOn, FetchAgain, NoticesOff, Copy, Give, Publish, Ended}
 use Rattle.vring_turns.specs.Ring.{Ring, done_in}
-use Rattle.vring_turns.specs.Turn.{is_enough, fault_of}
+use Rattle.vring_turns.specs.Turn.{is_enough}
+use Rattle.vring_turns.specs.Stage.{is_giving, chains_at, tx_stopped_at, tx_is_publishing, tx_is_over}
 use Rattle.vring_turns.specs.TxTurn.{TxTurn, TxState, at_stage}
 
 -- a worker: its turn, and the layout and the position that its queue has
@@ -27,41 +27,18 @@ state_of w q m host = record { turn = w.turn; queue = q; memory = m; host = host
 abbrev pub ring_of : Worker → Queue → Ring
 ring_of w q = record { queue = q; chains = w.turn.chains }
 
--- What a stage says.
-
--- how many chains were fetched and aren't done
-abbrev pub chains_at : TxStage → ℕ
-chains_at Copy = 1
-chains_at (NoticesOff None) = 1
-chains_at stage = 0
-
--- whether an accepted frame is still to be given
-abbrev pub holds_at : TxStage → Bool
-holds_at Give = true
-holds_at stage = false
-
--- the fault that stopped the ring in this turn
-abbrev pub stopped_at : TxStage → Option RingFault
-stopped_at (NoticesOff fault) = fault
-stopped_at (Publish (Some end)) = fault_of end
-stopped_at (Ended end) = fault_of end
-stopped_at stage = None
-
--- whether something is there to be published
-abbrev pub publishes_at : TxStage → Bool
-publishes_at (Publish end) = true
-publishes_at stage = false
-
 -- whether one more packet may come
 abbrev pub goes_on_at : TxStage → Bool
+goes_on_at Begin = true
+goes_on_at Fetch = true
+goes_on_at NoticesOn = true
+goes_on_at FetchAgain = true
+goes_on_at (NoticesOff fault) = true
+goes_on_at Copy = true
 goes_on_at Give = false
+goes_on_at (Publish None) = true
 goes_on_at (Publish (Some end)) = false
 goes_on_at (Ended end) = false
-goes_on_at stage = true
-
-abbrev pub is_over : TxStage → Bool
-is_over (Ended end) = true
-is_over stage = false
 
 -- Fitting together.
 
@@ -70,14 +47,14 @@ pub record IsSameQueue (w : Worker) (q : Queue) : Type 0 where
   pub layout : q.layout ≡ w.layout
   pub next : q.positions.next ≡ w.next
   pub gathered : q.positions.gathered ≡ chains_at w.turn.stage
-  pub stopped : q.stopped ≡ stopped_at w.turn.stage
-  pub done : publishes_at w.turn.stage ≡ true → 0 < done_in q
+  pub stopped : q.stopped ≡ tx_stopped_at w.turn.stage
+  pub done : tx_is_publishing w.turn.stage ≡ true → 0 < done_in q
 
 -- the worker holds what its stage says, it has not done enough where it goes on, and there are places for what it may
 -- still publish
 pub record HasNumbers (w : Worker) (r : Reserved) : Type 0 where
   pub chains : length w.turn.chains ≡ chains_at w.turn.stage
-  pub held : is_some w.turn.held ≡ holds_at w.turn.stage
+  pub held : is_some w.turn.held ≡ is_giving w.turn.stage
   pub more : goes_on_at w.turn.stage ≡ true → is_enough w.turn.packets w.turn.bytes w.turn.packets ≡ false
   pub few : w.turn.accepted ≤ w.turn.packets
   pub room : most_done ≤ room_of r + w.turn.packets
@@ -89,7 +66,7 @@ pub record IsSteady (w : Worker) (r : Reserved) : Type 0 where
 -- and the turn isn't over: one more step may be made
 pub record Fits (w : Worker) (r : Reserved) : Type 0 where
   pub steady : IsSteady w r
-  pub going : is_over w.turn.stage ≡ false
+  pub going : tx_is_over w.turn.stage ≡ false
 
 -- What a step does.
 

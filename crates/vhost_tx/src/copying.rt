@@ -1,5 +1,5 @@
 //! The bytes of a chain.
-ghost use Rattle.std.specs.Prelude.{◌≡◌, ◌↔◌, ℕ, ◌+◌, ◌≤◌, min, List, ◌++◌, take, drop, length, None, Some, IfOk, OnOk, IfErr, IsTrue, All};
+ghost use Rattle.std.specs.Prelude.{◌≡◌, ℕ, ◌+◌, ◌≤◌, min, List, ◌++◌, take, drop, None, Some, IfOk, OnOk, IfErr, IsTrue, All};
 ghost use Rattle.guest_mem.specs.Memory.{covers};
 ghost use Rattle.vring_walk.specs.Spread.{bytes_in, first_gathered};
 ghost use Rattle.tap_frame.specs.Spelling.{first_case, header_in, behind_header};

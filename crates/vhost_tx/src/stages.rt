@@ -1,6 +1,7 @@
 //! What the worker's stage says.
 ghost use Rattle.std.specs.Prelude.{◌≡◌};
-ghost use Rattle.vhost_tx.specs.Worker.{chains_at, holds_at, stopped_at, publishes_at, goes_on_at};
+ghost use Rattle.vring_turns.specs.Stage.{is_giving, chains_at, tx_stopped_at, tx_is_publishing};
+ghost use Rattle.vhost_tx.specs.Worker.{goes_on_at};
 
 use vring_split::RingFault;
 use vring_turns::{End, TxStage};
@@ -16,26 +17,26 @@ pub fn chains_at(stage: TxStage) -> u16
 }
 
 /// Whether an accepted frame is still to be given.
-pub fn holds_at(stage: TxStage) -> bool
-    ensures { result ≡ holds_at stage }
+pub fn is_giving(stage: TxStage) -> bool
+    ensures { result ≡ is_giving stage }
 {
     matches!(stage, TxStage::Give)
 }
 
 /// The fault that stopped the ring in this turn.
 pub fn stopped_at(stage: TxStage) -> Option<RingFault>
-    ensures { result ≡ stopped_at stage }
+    ensures { result ≡ tx_stopped_at stage }
 {
     match stage {
-        TxStage::NoticesOff { fault } => fault,
+        TxStage::NoticesOff { fault: Some(fault) } => Some(fault),
         TxStage::Publish { end: Some(end) } | TxStage::Ended(end) => end.fault(),
         _ => None,
     }
 }
 
 /// Whether something is there to be published.
-pub fn publishes_at(stage: TxStage) -> bool
-    ensures { result ≡ publishes_at stage }
+pub fn is_publishing(stage: TxStage) -> bool
+    ensures { result ≡ tx_is_publishing stage }
 {
     matches!(stage, TxStage::Publish { .. })
 }

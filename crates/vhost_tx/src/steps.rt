@@ -5,7 +5,7 @@ ghost use Rattle.vhost_queue.specs.Positions.{with_done};
 ghost use Rattle.vhost_queue.specs.Queue.{IsGood, room_of};
 ghost use Rattle.vring_turns.specs.Ring.{LieIn};
 ghost use Rattle.vring_turns.specs.TxTurn.{tx_after_packet, tx_publishes, tx_copies, tx_gives, tx_step, tx_told, tx_out_of_memory, at_stage};
-ghost use Rattle.vring_turns.specs.Turn.{event_of, IfMore};
+ghost use Rattle.vring_turns.specs.Turn.{event_of, IfMore, most_packets, most_bytes};
 ghost use Rattle.vhost_tx.specs.Worker.{IsSteady, Fits, Changes, state_of, out_of_memory};
 ghost use Rattle.vhost_tx.specs.Copying.{counting, holding, IsRead};
 
@@ -42,8 +42,8 @@ impl TxWorker {
     fn finish(&mut self, vq: &mut Vq, head: u16, counted: u32)
         requires some { vq.old.queue.positions.gathered ≡ 1 }
         requires room { 0 < room_of vq.old }
-        requires packets { self.old.turn.packets < 256 }
-        requires bytes { self.old.turn.bytes < 524288 }
+        requires packets { self.old.turn.packets < most_packets }
+        requires bytes { self.old.turn.bytes < most_bytes }
         ensures queue { vq.new ≡ record vq.old {
           queue = record vq.old.queue { positions = with_done head 0 vq.old.queue.positions };
         } }

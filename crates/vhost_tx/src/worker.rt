@@ -8,7 +8,7 @@ ghost use Rattle.vhost_queue.specs.Queue.{turn_places};
 ghost use Rattle.vring_turns.specs.TransmitBytes.{is_header_size};
 ghost use Rattle.vring_turns.specs.TxTurn.{tx_begun, tx_report};
 
-use crate::stages::{chains_at, goes_on_at, holds_at, publishes_at, stopped_at};
+use crate::stages::{chains_at, goes_on_at, is_giving, is_publishing, stopped_at};
 use guest_mem::Memory;
 use std::alloc::{AllocError, Global};
 use std::marker::Model;
@@ -52,7 +52,8 @@ impl Model for TxWorker {
 }
 
 impl TxWorker {
-    ghost use Rattle.vhost_tx.specs.Worker.{Fits, IsSameQueue, HasNumbers, is_over};
+    ghost use Rattle.vhost_tx.specs.Worker.{Fits, IsSameQueue, HasNumbers};
+    ghost use Rattle.vring_turns.specs.Stage.{tx_is_over};
     ghost use Rattle.vring_turns.specs.Turn.{is_enough as enough};
 
     /// A worker for one turn on a queue, whose frames have a header of `hdr` bytes, 10 or 12, in front of
@@ -97,6 +98,13 @@ impl TxWorker {
         self.held.as_ref()
     }
 
+    /// Where the turn stands: which step comes next.
+    pub fn stage(&self) -> TxStage
+        ensures { result ≡ self.now.turn.stage }
+    {
+        self.stage
+    }
+
     /// Whether the queue is the one of `begin`, changed since by this worker's steps alone, as far as the
     /// numbers that both keep can tell, and the turn isn't over. It takes the same time whatever the turn did.
     pub fn fits(&self, vq: &Vq) -> bool
@@ -115,7 +123,7 @@ impl TxWorker {
 
     // Whether the turn is over.
     fn is_over(&self) -> bool
-        ensures { result ≡ is_over self.now.turn.stage }
+        ensures { result ≡ tx_is_over self.now.turn.stage }
     {
         matches!(self.stage, TxStage::Ended(_))
     }
@@ -128,7 +136,7 @@ impl TxWorker {
             && vq.position() == self.next
             && vq.gathered() == chains_at(self.stage)
             && vq.stopped() == stopped_at(self.stage)
-            && (vq.unpublished() > 0 || !publishes_at(self.stage))
+            && (vq.unpublished() > 0 || !is_publishing(self.stage))
     }
 
     // Whether the worker and its room are as its stage says.
@@ -136,7 +144,7 @@ impl TxWorker {
         ensures { IsTrue result ↔ HasNumbers self.now vq.now }
     {
         u16::from(self.head.is_some()) == chains_at(self.stage)
-            && self.held.is_some() == holds_at(self.stage)
+            && self.held.is_some() == is_giving(self.stage)
             && (!goes_on_at(self.stage) || !self.is_enough())
             && u32::from(self.accepted) <= self.packets
             && u64::from(vq.room()) + u64::from(self.packets) >= 1087

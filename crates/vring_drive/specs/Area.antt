@@ -3,7 +3,7 @@ use Rattle.std.specs.Prelude.{◌≡◌, ℕ, ◌+◌, ◌-◌, ◌*◌, ◌/◌
 use Rattle.std.specs.Option.{option_map}
 use Rattle.guest_mem.specs.Memory.{Contents, first_bad, covers}
 -- the 16-bit field at an address, and the memory with a number in it
-pub use Rattle.guest_mem.specs.Memory.{le16_at as field_at, with_le16 as with_field}
+unfoldable pub use Rattle.guest_mem.specs.Memory.{le16_at as field_at, with_le16 as with_field}
 use Rattle.vring_split.specs.Split.{desc_len, avail_len, used_len}
 use Rattle.vring_split.specs.declared.layout.Layout.{Layout}
 use Rattle.vring_drive.specs.declared.error.DriveErr.{DriveErr}

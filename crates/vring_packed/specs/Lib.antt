@@ -9,3 +9,4 @@ pub mod Calls
 pub mod Kept
 pub mod Examples
 pub mod Turns
+pub mod Heads

@@ -104,12 +104,3 @@ with_published q = record q {
 abbrev pub IsEarliest : List PackedChain → ℕ → Type 0
 IsEarliest [] head = ⊥
 IsEarliest (c ∷ cs) head = head ≡ c.id
-
--- the chain that was fetched has this id
-abbrev pub IsNext : Option PackedChain → ℕ → Type 0
-IsNext None id = ⊥
-IsNext (Some c) id = id ≡ c.id
-
--- the ids of chains
-abbrev pub ids_of : List PackedChain → List ℕ
-ids_of cs = map (λ c. c.id) cs

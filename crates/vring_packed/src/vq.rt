@@ -253,8 +253,7 @@ impl Once for PackedVq {
     ghost use Rattle.vhost_queue.specs.Positions.{served as served_of, rewound, with_done};
     ghost use Rattle.vring_packed.specs.Packed.{IsGoodFor as Good};
     ghost use Rattle.vring_packed.specs.Publication.{wants_notice as wants};
-    ghost use Rattle.vring_packed.specs.Queue.{IsNext, ids_of};
-    ghost use Rattle.vring_packed.proofs.Heads.{first_is_earliest};
+    ghost use Rattle.vring_packed.specs.Heads.{IsNext, ids_of, first_is_earliest};
 
     ghost lists = { λ v. lists_of v };
 

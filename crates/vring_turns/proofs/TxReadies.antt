@@ -1,9 +1,11 @@
 -- A transmit turn has ready what its next step needs, and there is one until it is over.
 use Rattle.std.proofs.Common.{◌≡◌, ◌≢◌, ℕ, ◌<◌, Bool, true, false, List, [], ◌∷◌, length, Option, None, Some, is_some, if◌then◌else◌, nat_le, nat_lt, nat_eq, refl, sym, ap, ◌∙◌, subst, arith}
+use Rattle.guest_mem.specs.Memory.{byte_at, covers}
 use Rattle.vring_split.specs.declared.fault.RingFault.{RingFault}
 use Rattle.vring_split.specs.declared.segment.Segment.{Segment}
 use Rattle.vring_walk.specs.declared.walk.Fetched.{Fetched}
 use Rattle.vring_walk.specs.declared.walk.Fetched.TheVariants.{Chain, Nothing, Bad, Crowded}
+use Rattle.vring_walk.specs.Laws.{EmptyIsNotCrowded}
 use Rattle.vhost_queue.specs.Queue.{Queue}
 use Rattle.tap_frame.specs.declared.reading.BadFrame.{BadFrame}
 use Rattle.tap_frame.specs.Frame.{FrameValue}
@@ -21,7 +23,7 @@ use Rattle.vring_turns.specs.Stage.{is_giving, tx_is_publishing, tx_is_over}
 use Rattle.vring_turns.specs.TxTurn.{TxTurn, TxState, tx_ring, tx_made, tx_done, tx_judged, tx_copies, tx_gives, tx_after_packet, tx_after_fetch, tx_after_second, tx_after_notices, tx_next}
 use Rattle.vring_turns.specs.TxRun.{Moment, IsTxRun}
 use Rattle.vring_turns.specs.Standing.{TxStandsAt}
-use Rattle.vring_turns.specs.Ready.{TxReady, NoChainIsCrowded, TransmitTurnsBeginReady, TransmitTurnsStayReady, TransmitTurnsGoOn}
+use Rattle.vring_turns.specs.Ready.{TxReady, TransmitTurnsBeginReady, TransmitTurnsStayReady, TransmitTurnsGoOn}
 use Rattle.vring_turns.proofs.TxRuns.{some_is, published_made}
 use Rattle.vring_turns.proofs.TxFrames.{run_passes}
 
@@ -208,11 +210,11 @@ some_second q (Bad fault) fits = refl
 some_second q Crowded fits = absurd (fits refl)
 
 -- a fetch that has all places finds enough of them
-some_places : NoChainIsCrowded → (s : TxState) → s.turn.chains ≡ [] → (found (tx_ring s) s.memory).0 ≢ Crowded
+some_places : EmptyIsNotCrowded → (s : TxState) → s.turn.chains ≡ [] → (found (tx_ring s) s.memory).0 ≢ Crowded
 some_places fits s none =
     let P : List Gathered → Type 0 =
     λ cs. (found (record { queue = s.queue; chains = cs }) s.memory).0 ≢ Crowded in
-    subst P (sym none) (fits s.memory s.queue.layout s.queue.positions.next)
+    subst P (sym none) (fits (byte_at s.memory) (covers s.memory.regions) s.queue.layout s.queue.positions.next)
 
 some_copy : (s : TxState) (chains : List Gathered) → length chains ≡ 1 → is_some (tx_copies chains s) ≡ true
 some_copy s [] one = cc
@@ -241,7 +243,7 @@ some_publish s o true some = cc
 some_publish s o false some = refl
 
 some_next :
-    NoChainIsCrowded → (s : TxState) (st : TxStage)
+    EmptyIsNotCrowded → (s : TxState) (st : TxStage)
     → TxStandsAt st s.turn s.queue → is_some s.turn.held ≡ is_giving st → HasDone st s.queue
     → tx_is_over st ≡ false → (is_giving st ≡ true → 0 < s.host.room)
     → is_some (tx_next st s) ≡ true
@@ -260,6 +262,6 @@ some_next fits s (tx.Publish o) at held done going room =
     some_publish s o (nat_eq (done_in s.queue) 0) (not_zero (done_in s.queue) (done refl))
 some_next fits s (tx.Ended k) at held done going room = cc
 
-pub there_is : NoChainIsCrowded → TransmitTurnsGoOn
+pub there_is : EmptyIsNotCrowded → TransmitTurnsGoOn
 there_is fits s stands ready going room =
     some_next fits s s.turn.stage stands.stage ready.held ready.done going room

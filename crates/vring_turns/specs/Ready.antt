@@ -1,14 +1,11 @@
 -- This project's own: what a turn has ready for its next step, beside how it and its ring stand, and that there is one
 -- until it is over.
-use Rattle.std.specs.Prelude.{◌≡◌, ◌≢◌, ℕ, ◌<◌, ◌≤◌, Bool, true, false, List, [], length, is_some}
-use Rattle.guest_mem.specs.Memory.{Contents}
-use Rattle.vring_split.specs.declared.layout.Layout.{Layout}
-use Rattle.vring_walk.specs.declared.walk.Fetched.TheVariants.{Crowded}
+use Rattle.std.specs.Prelude.{◌≡◌, ℕ, ◌<◌, ◌≤◌, Bool, true, false, List, length, is_some}
 use Rattle.tap_frame.specs.declared.name.Name.{Name}
 use Rattle.tap_ledger.specs.declared.hand.Hand.{Hand}
 use Rattle.tap_ledger.specs.declared.hand.Hand.TheVariants.{Got, NotReady, Off, NoMemory}
 use Rattle.vhost_queue.specs.Queue.{Queue}
-use Rattle.vring_turns.specs.Ring.{found_behind, room_in, done_in}
+use Rattle.vring_turns.specs.Ring.{room_in, done_in}
 use Rattle.vring_turns.specs.Stage.{is_giving, tx_is_publishing, tx_is_over, has_in_hand, need_at, is_asking, copies_at, rx_is_publishing, rx_is_over}
 use Rattle.vring_turns.specs.TxTurn.{TxTurn, TxState, tx_begun, tx_step}
 use Rattle.vring_turns.specs.TxRun.{Moment, IsTxRun, HoldsRightly}
@@ -31,10 +28,6 @@ TransmitTurnsBeginReady = (header : ℕ) (first : Name) (q : Queue) → TxReady 
 abbrev pub TransmitTurnsStayReady : Type 0
 TransmitTurnsStayReady =
     (t t' : TxTurn) (q q' : Queue) (ms : List Moment) → TxReady t q → IsTxRun t q ms t' q' → TxReady t' q'
-
--- a fetch that has all places for segments finds enough of them
-abbrev pub NoChainIsCrowded : Type 0
-NoChainIsCrowded = (m : Contents) (l : Layout) (position : ℕ) → (found_behind [] m l position).0 ≢ Crowded
 
 -- until it is over there is a next step, where the host has room for the frame that is given
 abbrev pub TransmitTurnsGoOn : Type 0

@@ -7,9 +7,19 @@ use Rattle.vring_turns.specs.declared.end.End.TheVariants.{Stopped}
 use Rattle.vring_turns.specs.declared.step.Step.{Step}
 use Rattle.vring_turns.specs.declared.step.Step.TheVariants.{More, Ended}
 
+-- how many packets, bytes of packets and chains one turn handles
+abbrev pub most_packets : ℕ
+most_packets = 256
+
+abbrev pub most_bytes : ℕ
+most_bytes = 524288
+
+abbrev pub most_chains : ℕ
+most_chains = 1024
+
 -- a turn that handled so many packets, bytes and chains did as much as one turn does
 abbrev pub is_enough : ℕ → ℕ → ℕ → Bool
-is_enough packets bytes chains = nat_le 256 packets || nat_le 524288 bytes || nat_le 1024 chains
+is_enough packets bytes chains = nat_le most_packets packets || nat_le most_bytes bytes || nat_le most_chains chains
 
 -- how many chains that are done are published at once, between two packets
 abbrev pub publishes_at : ℕ

@@ -5,11 +5,12 @@ ghost use Rattle.vring_turns.specs.RxRun.{ReceiveTurnsDo};
 ghost use Rattle.vring_turns.specs.Publications.{TransmitTurnsPublish, ReceiveTurnsPublish};
 ghost use Rattle.vring_turns.specs.RxLine.{ReceiveTurnsPass};
 ghost use Rattle.vring_turns.specs.Standing.{TransmitTurnsBegin, TransmitTurnsStand, TransmitTurnsKeepOrder, ReceiveTurnsBegin, ReceiveTurnsStand, ReceiveTurnsKeepOrder};
-ghost use Rattle.vring_turns.specs.Ready.{TransmitTurnsBeginReady, TransmitTurnsStayReady, TransmitTurnsGoOn, NoChainIsCrowded, ReceiveTurnsBeginReady, ReceiveTurnsStayReady, ReceiveTurnsGoOn};
+ghost use Rattle.vring_turns.specs.Ready.{TransmitTurnsBeginReady, TransmitTurnsStayReady, TransmitTurnsGoOn, ReceiveTurnsBeginReady, ReceiveTurnsStayReady, ReceiveTurnsGoOn};
 ghost use Rattle.vring_turns.specs.Ends.{TransmitTurnsTell, TransmitTurnsEnd, ReceiveTurnsTell, ReceiveTurnsEnd, ReceiveTurnsAreShort};
 ghost use Rattle.vring_turns.specs.RxExamples.{TwoChainsTakeIt, OneChainIsShort, OneChainOverruns, BadTableStops, NoChainIsShort};
 
 use vhost_queue::positions_stay_in_order;
+use vring_walk::empty_is_not_crowded;
 
 /// What a whole transmit turn did, whatever others write into the memory between its steps: each chain
 /// whose bytes were read is a packet of its bytes, and is published or done with length 0, in the order in
@@ -61,8 +62,10 @@ pub fn receive_standing()
 pub fn transmit_ready()
     ensures begins { TransmitTurnsBeginReady }
     ensures stays { TransmitTurnsStayReady }
-    ensures goes_on { NoChainIsCrowded → TransmitTurnsGoOn }
-{}
+    ensures goes_on { TransmitTurnsGoOn }
+{
+    empty_is_not_crowded();
+}
 
 /// A receive turn has ready what its next step needs, whatever others write into the memory between its steps,
 /// and until it is over there is one, where the queue of frames that is asked for one hands it out or has none

@@ -34,7 +34,7 @@ pub use crate::laws::{
     transmit_examples, transmit_ready, transmit_standing, transmit_turns,
 };
 pub use crate::limits::{
-    MOST_BYTES, MOST_CHAINS, MOST_PACKETS, PUBLISHES_AT, is_enough, is_published,
+    MOST_BYTES, MOST_CHAINS, MOST_PACKETS, MOST_QUOTA, PUBLISHES_AT, is_enough, is_published,
 };
 pub use crate::stage::{After, RxStage, TxStage};
 pub use crate::step::Step;

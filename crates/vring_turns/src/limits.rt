@@ -11,6 +11,9 @@ pub const MOST_BYTES: u64 = 524_288;
 /// How many chains one turn handles.
 pub const MOST_CHAINS: u32 = 1024;
 
+/// How many chains one frame may go into, where it may go into several.
+pub const MOST_QUOTA: usize = 1024;
+
 /// How many chains that are done are published between two packets.
 pub const PUBLISHES_AT: u16 = 64;
 

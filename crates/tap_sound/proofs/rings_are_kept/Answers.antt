@@ -2,7 +2,7 @@ use Rattle.tap_sound.proofs.EventRings as laws
 use Rattle.tap_sound.proofs.rings_are_kept.Goals as goal
 
 pub returns : goal.returns
-returns c = laws.rings_are_kept (record {
+returns c = λ s w e u is q h. laws.rings_are_kept (record {
   turn = record {
     rx_begin = c.receive_standing.ensures.begins;
     rx_stand = c.receive_standing.ensures.stands;
@@ -17,4 +17,4 @@ returns c = laws.rings_are_kept (record {
     good = c.rings_stay_good.ensures.good;
     order = c.lists_stay_in_order.ensures.calls;
   };
-})
+}) s w e u is q.0 q.1 h

@@ -11,6 +11,6 @@ in_order false s rx tx = tx
 
 pub returns : goal.returns
 returns c = λ s w vhost ring v sound at.
-    let r = sound.rings vhost v at in
+    let r = sound.rings.rings vhost v at in
     used.are_counted (ring_at ring v.settings).lists (ring_at ring v.settings).queue.positions
     (in_order (is_rx ring) v.settings r.2.lists r.3.lists)

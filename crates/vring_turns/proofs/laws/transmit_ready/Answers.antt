@@ -8,4 +8,4 @@ pub returns-clause-stays : goal.returns-clause-stays
 returns-clause-stays c = run_stays
 
 pub returns-clause-goes_on : goal.returns-clause-goes_on
-returns-clause-goes_on c = there_is
+returns-clause-goes_on c = there_is c.empty_is_not_crowded.ensures

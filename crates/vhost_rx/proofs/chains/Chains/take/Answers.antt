@@ -2,8 +2,7 @@ use Rattle.std.proofs.Common.{◌≡◌, ℕ, ◌+◌, ◌++◌, [], ◌∷◌, 
 use Rattle.std.proofs.lemmas.List.{length-append}
 use Rattle.guest_mem.specs.Memory.{covers}
 use Rattle.vring_split.specs.declared.segment.Segment.{Segment}
-use Rattle.vring_turns.specs.Ring.{Gathered, LieIn, bytes_in, room_in, segments_of}
-use Rattle.vhost_rx.specs.Chains.{found_behind}
+use Rattle.vring_turns.specs.Ring.{Gathered, LieIn, bytes_in, room_in, segments_of, found_behind}
 use Rattle.vhost_rx.specs.Kept.{split_into}
 use Rattle.vhost_rx.proofs.Splits.{length-split_into, segments_of-split_into, split_into-more, AreSplit-more, room_in-more, LieIn-more, new_part}
 use Rattle.vhost_rx.proofs.Takes.{room_stays, chains_stay}

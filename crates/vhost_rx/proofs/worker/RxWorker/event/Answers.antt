@@ -3,7 +3,8 @@ use Rattle.tap_ledger.specs.declared.hand.Hand.TheVariants.{Off}
 use Rattle.vring_turns.specs.declared.stage.RxStage.{RxStage}
 use Rattle.vring_turns.specs.RxTurn.{rx_next, rx_outs}
 use Rattle.vring_turns.specs.Hands.{MovesAt}
-use Rattle.vhost_rx.specs.Worker.{state_of, holds_at}
+use Rattle.vring_turns.specs.Stage.{has_in_hand}
+use Rattle.vhost_rx.specs.Worker.{state_of}
 use Rattle.vhost_rx.proofs.Events.{out_step, discard_step, back_step, at_memory, discarded}
 use Rattle.vhost_rx.proofs.worker.RxWorker.event.Goals as goal
 
@@ -41,7 +42,7 @@ returns-in-Out-clause-event g c =
     let s = state_of c.args.self.now c.args.vq.now.queue c.args.mem.now in
     let after = state_of c.out.new.self c.args.vq.now.queue c.args.mem.now in
     let e = ap (λ w. w.turn.stage) (sym c.self.view_is) ∙ c.in-Out.is in
-    let held = c.requires.fits.steady.chains.held ∙ ap holds_at e in
+    let held = c.requires.fits.steady.chains.held ∙ ap has_in_hand e in
     let P : RxStage → Type 0 = λ st. MovesAt st t Off old new in
     record {
       hand = Off;
@@ -59,7 +60,7 @@ returns-in-Discard-clause-event g c =
     let s = state_of c.args.self.now c.args.vq.now.queue c.args.mem.now in
     let after = state_of c.out-in-Discard.new.self c.args.vq.now.queue c.args.mem.now in
     let e = ap (λ w. w.turn.stage) (sym c.self.view_is) ∙ c.in-Discard.is in
-    let held = c.requires.fits.steady.chains.held ∙ ap holds_at e in
+    let held = c.requires.fits.steady.chains.held ∙ ap has_in_hand e in
     let P : RxStage → Type 0 = λ st. MovesAt st t Off old new in
     record {
       hand = Off;
@@ -80,7 +81,7 @@ returns-in-PutBack-clause-event g c =
     let s = state_of c.args.self.now c.args.vq.now.queue c.args.mem.now in
     let after = state_of c.put_back.new.self c.args.vq.now.queue c.args.mem.now in
     let e = ap (λ w. w.turn.stage) (sym c.self.view_is) ∙ c.in-PutBack.is in
-    let held = c.requires.fits.steady.chains.held ∙ ap holds_at e in
+    let held = c.requires.fits.steady.chains.held ∙ ap has_in_hand e in
     let P : RxStage → Type 0 = λ st. MovesAt st t Off old new in
     record {
       hand = Off;
