@@ -216,8 +216,8 @@ pub record IsRouted (t : Table) (device : ℕ) (hdr : Option Hdr) (bytes : List 
   pub accepted : bad_in (sent_front hdr) (sent_bytes hdr bytes) ≡ None
   pub selected :
       steer.select t device (ether_in (sent_front hdr) (sent_bytes hdr bytes)) ≡ Row row keep resizes capacity
-  pub file : row.file ≡ file
-  pub epoch : row.epoch ≡ epoch
+  pub is_file : row.file ≡ file
+  pub is_epoch : row.epoch ≡ epoch
 
 -- bytes that are written to a file are accepted in front of these Ethernet bytes
 pub record IsWritten (t : Table) (file : ℕ) (bytes ether : List ℕ) : Type 0 where
