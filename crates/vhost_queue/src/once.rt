@@ -78,5 +78,6 @@ pub trait Once {
         ensures { result.now ≡ (lists self.now).journal };
 
     // The first of the chains that were served may be done.
-    ghost first_may_finish: { (v : Self) (head : ℕ) (heads : List ℕ) → are_served v (head ∷ heads) → may_finish v head };
+    ghost first_may_finish: { (v : Self) (head : ℕ) (heads : List ℕ)
+        → are_served v (head ∷ heads) → may_finish v head };
 }
