@@ -1,5 +1,5 @@
 -- This project's own: what is so at the end of a ring, when all its tokens are back.
-use Rattle.std.specs.Prelude.{◌≡◌, ℕ, ◌+◌, ◌≤◌, true, List, [], ◌∷◌, ◌++◌, length, slice_get, Contains, Some}
+use Rattle.std.specs.Prelude.{◌≡◌, ℕ, ◌+◌, ◌<◌, ◌≤◌, true, List, [], ◌∷◌, ◌++◌, length, slice_get, Contains, Some}
 use Rattle.atomic_table.specs.Seated.{TableId}
 use Rattle.tap_frame.specs.Frame.{FrameValue}
 use Rattle.tap_ring.specs.declared.gate.TheConstants.{CLAIMS_END}
