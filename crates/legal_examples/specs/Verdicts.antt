@@ -149,7 +149,7 @@ ChangesAreIllegal =
     × (judged workers one_up ≡ Some (codes "illegal 32 c"))
     × (judged later full_too_late ≡ Some (codes "illegal 7 d"))
     × (judged one_place full_of_more ≡ Some (codes "illegal 6 d"))
-    × (judged one_place gone_from_none ≡ Some (codes "illegal 6 e"))
+    × (judged one_place gone_from_none ≡ Some (codes "illegal 10 e"))
     × (judged one_place found_none ≡ Some (codes "illegal 7 f"))
     × (judged workers refusal_too_late ≡ Some (codes "illegal 29 g"))
     × (judged workers short_of_none ≡ Some (codes "illegal 28 g"))

@@ -10,13 +10,15 @@ use Rattle.atomic_table.specs.Table.{Final, Seen}
 use Rattle.tap_frame.specs.Frame.{FrameValue}
 use Rattle.tap_ring.specs.declared.rule.Moment.{Moment}
 use Rattle.tap_ring.specs.declared.rule.Claim.{Claim}
+use Rattle.tap_ring.specs.declared.rule.Produced.{Produced}
+use Rattle.tap_ring.specs.declared.rule.Kept.{Kept}
 use Rattle.tap_ring.specs.declared.rule.View.{View}
 use Rattle.tap_ring.specs.declared.rule.Plan.{Plan}
 use Rattle.tap_ring.specs.GateWord.{claimed_of}
 use Rattle.tap_ring.specs.Turns.{turns_to, IsGiven, EachGiven}
 use Rattle.tap_ring.specs.Standing.{RingState, Placing, slots_of, home_at, IsEntered, IsReady, IsClaimed, IsInHand, EachClaim, KnowsFront, Ring, frames_of, times, total, within}
 use Rattle.tap_ring.specs.Steps.{with_producer, with_keeper}
-use Rattle.tap_ring.specs.Calls.{Token}
+use Rattle.tap_ring.specs.Tokens.{Token, consumed}
 use Rattle.tap_ring.specs.Moments.{KeepsRoom, IsPast, EachPast, IsBefore, capacity_at}
 use Rattle.tap_ring.specs.Finish.{StandsIn, AllClaims, AllGiven, AllBefore, EpochsNeverFall, IsEnd, claims_of, claims_to}
 use Rattle.tap_ring.specs.Leaving.{present, slots_from, gathered}
@@ -54,7 +56,7 @@ all_of f (x ∷ xs) (suc i) a e all =
 
 -- ---- what was gathered
 
-pub gathered_times : (p : ℕ) (v : View) (all : List Token) → v.mine ≡ [] → times p (gathered v all).mine ≡ claims_to p all
+pub gathered_times : (p : ℕ) (v : View) (all : List (Token Produced)) → v.mine ≡ [] → times p (gathered v all).mine ≡ claims_to p all
 gathered_times p v [] none_mine = ap (times p) none_mine
 gathered_times p v (t ∷ ts) none_mine =
     let r = gathered_times p v ts none_mine in
@@ -65,17 +67,17 @@ each_parts : (P : Claim → Type 0) (xs ys : List Claim) → EachClaim P (xs ++ 
 each_parts P [] ys e = (tt, e)
 each_parts P (x ∷ xs) ys e = let r = each_parts P xs ys e.1 in ((e.0, r.0), r.1)
 
-gathered_claims : (P : Claim → Type 0) (v : View) (all : List Token) → EachClaim P (gathered v all).mine → AllClaims P all
+gathered_claims : (P : Claim → Type 0) (v : View) (all : List (Token Produced)) → EachClaim P (gathered v all).mine → AllClaims P all
 gathered_claims P v [] e = tt
 gathered_claims P v (t ∷ ts) e = let r = each_parts P (gathered v ts).mine t.view.mine e in (r.1, gathered_claims P v ts r.0)
 
-gathered_given : (first : ℕ) (resized : List ℕ) (v : View) (all : List Token) → EachGiven first resized (gathered v all).loaded → AllGiven first resized all
+gathered_given : (first : ℕ) (resized : List ℕ) (v : View) (all : List (Token Produced)) → EachGiven first resized (gathered v all).loaded → AllGiven first resized all
 gathered_given first resized v [] e = tt
 gathered_given first resized v (t ∷ ts) e = let r = given_parts first resized (gathered v ts).loaded t.view.loaded e in (r.1, gathered_given first resized v ts r.0)
 
 -- ---- epochs along the places
 
-claims_each : (P : Claim → Type 0) (all : List Token) → AllClaims P all → EachClaim P (claims_of all)
+claims_each : (P : Claim → Type 0) (all : List (Token Produced)) → AllClaims P all → EachClaim P (claims_of all)
 claims_each P [] a = tt
 claims_each P (t ∷ ts) a = each_append P t.view.mine (claims_of ts) a.0 (claims_each P ts a.1)
 
@@ -88,7 +90,7 @@ each_there P (x ∷ xs) c a e = go (each_there P xs c a.1) e.0 e.1 e.2
     go behind (suc k) lt is = behind (k, omega (arith, lt), is)
 
 -- who counts the reopenings up to a place never counts less at a further one
-epochs_rise : (opened : List ℕ) (all : List Token) → AllClaims (λ x. x.epoch ≡ turns_to x.place opened) all → EpochsNeverFall (claims_of all)
+epochs_rise : (opened : List ℕ) (all : List (Token Produced)) → AllClaims (λ x. x.epoch ≡ turns_to x.place opened) all → EpochsNeverFall (claims_of all)
 epochs_rise opened all a c d in_c in_d le =
     let each = claims_each (λ x. x.epoch ≡ turns_to x.place opened) all a in
     let low = each_there (λ x. x.epoch ≡ turns_to x.place opened) (claims_of all) c each in_c in
@@ -97,16 +99,16 @@ epochs_rise opened all a c d in_c in_d le =
     omega (arith, low, high, rise)
 
 -- the consumer's part stays as it was
-pub gathered_front : (v : View) (all : List Token) → ((gathered v all).takes ≡ v.takes) × ((gathered v all).next ≡ v.next) × ((gathered v all).lifted ≡ v.lifted) × ((gathered v all).in_hand ≡ v.in_hand) × ((gathered v all).freed ≡ v.freed) × ((gathered v all).putting ≡ v.putting)
+pub gathered_front : (v : View) (all : List (Token Produced)) → ((gathered v all).takes ≡ v.takes) × ((gathered v all).next ≡ v.next) × ((gathered v all).lifted ≡ v.lifted) × ((gathered v all).in_hand ≡ v.in_hand) × ((gathered v all).freed ≡ v.freed) × ((gathered v all).putting ≡ v.putting)
 gathered_front v [] = (refl, refl, refl, refl, refl, refl)
 gathered_front v (t ∷ ts) = gathered_front v ts
 
 -- and the keeper's
-gathered_gate : (v : View) (all : List Token) → ((gathered v all).keeps ≡ v.keeps) × ((gathered v all).gate ≡ v.gate) × ((gathered v all).spent ≡ v.spent) × ((gathered v all).opened ≡ v.opened) × ((gathered v all).resized ≡ v.resized) × ((gathered v all).resized_from ≡ v.resized_from)
+gathered_gate : (v : View) (all : List (Token Produced)) → ((gathered v all).keeps ≡ v.keeps) × ((gathered v all).gate ≡ v.gate) × ((gathered v all).spent ≡ v.spent) × ((gathered v all).opened ≡ v.opened) × ((gathered v all).resized ≡ v.resized) × ((gathered v all).resized_from ≡ v.resized_from)
 gathered_gate v [] = (refl, refl, refl, refl, refl, refl)
 gathered_gate v (t ∷ ts) = gathered_gate v ts
 
-pub gathered_snoc : (v : View) (all : List Token) (t : Token) → gathered v (all ++ t ∷ []) ≡ gathered (with_producer v t.view) all
+pub gathered_snoc : (v : View) (all : List (Token Produced)) (t : Token Produced) → gathered v (all ++ t ∷ []) ≡ gathered (with_producer v t.view) all
 gathered_snoc v [] t = refl
 gathered_snoc v (x ∷ xs) t = ap (λ (y : View). with_producer y x.view) (gathered_snoc v xs t)
 
@@ -127,10 +129,10 @@ before_of ws now m last claimed freed a b c d e p =
     }
 
 gathered_seen : (ws : List ℕ) (now last : Moment) (claimed freed : ℕ) → now.claimed ≡ claimed → now.freed ≡ freed → now.epoch ≡ last.epoch → now.resizes ≡ last.resizes → now.shut ≡ last.shut
-    → (v : View) (all : List Token) → EachPast ws now (gathered v all).met → AllBefore claimed freed last all
+    → (v : View) (all : List (Token Produced)) → EachPast ws now (gathered v all).met → AllBefore claimed freed last all
 gathered_seen ws now last claimed freed a b c d e v [] past = tt
 gathered_seen ws now last claimed freed a b c d e v (t ∷ ts) past =
-    let r = mets_parts ws now (gathered v ts).met (t.view.gate ∷ t.view.asked ∷ t.view.room ∷ t.view.met) past in
+    let r = mets_parts ws now (gathered v ts).met (t.view.gate ∷ t.view.asked ∷ t.view.room ∷ []) past in
     let is : (m : Moment) → IsPast ws now m → IsBefore claimed freed last m = λ m. before_of ws now m last claimed freed a b c d e in
     ((is t.view.gate r.1.0, is t.view.asked r.1.1.0, is t.view.room r.1.1.1.0), gathered_seen ws now last claimed freed a b c d e v ts r.0)
 
@@ -254,10 +256,10 @@ module _ (plan : Plan) (s : RingState) (r : Ring plan s) (id : ℕ) (w : View) (
         (omega (arith, e, f, l), omega (arith, c, x), omega (arith, y, a), omega (arith, x, y, b), omega (arith, x, d))
 
 -- What is known once the table is closed.
-pub ended : (plan : Plan) (words : List ℕ) (slots : List (Option FrameValue)) (id n claimed : ℕ) (v k w : View) (all : List Token) → Final (Seen (Ring plan) id w) words slots → length slots ≡ n
+pub ended : (plan : Plan) (words : List ℕ) (slots : List (Option FrameValue)) (id n claimed : ℕ) (v w : View) (k : Kept) (all : List (Token Produced)) → Final (Seen (Ring plan) id w) words slots → length slots ≡ n
     → w ≡ gathered (with_keeper v k) all → w.parts ≡ plan.producers → v.takes ≡ true → v.in_hand ≡ None → v.putting ≡ None → v.mine ≡ [] → v.spent ≡ false → claimed ≡ claimed_of (slice_index words 0)
-    → IsEnd plan all v k claimed v.freed v.next (present (slots_from (v.freed % n) slots))
-ended plan words slots id n claimed v k w all final count is parts takes_is empty idle none_mine live claimed_is =
+    → IsEnd plan all (consumed v) k claimed v.freed v.next (present (slots_from (v.freed % n) slots))
+ended plan words slots id n claimed v w k all final count is parts takes_is empty idle none_mine live claimed_is =
     let s = final.0 in
     let r = final.1.0 in
     let at = final.1.1 in

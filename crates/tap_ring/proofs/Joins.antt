@@ -9,6 +9,7 @@ use Rattle.tap_ring.specs.declared.rule.View.{View}
 use Rattle.tap_ring.specs.declared.rule.Plan.{Plan}
 use Rattle.tap_ring.specs.Standing.{RingState, Placing, Standing, IsEntered, Knows, Ring, times}
 use Rattle.tap_ring.specs.Steps.{with_producer, with_keeper, spent_view}
+use Rattle.tap_ring.specs.Tokens.{produced, kept}
 use Rattle.tap_ring.proofs.Kit.{off, on, some_not_none, each_append, total_set, times-append, mets_both}
 use Rattle.tap_ring.proofs.Counts.{given_append}
 use Rattle.tap_ring.proofs.Stays.{Still, knows_apart, place_stays}
@@ -98,13 +99,10 @@ module _ (plan : Plan) where
 
   -- ---- a producer's claims come to the consumer's seat
 
-  both_nil : {A : Type 0} (xs ys : List A) → xs ≡ [] → ys ≡ [] → xs ++ ys ≡ []
-  both_nil xs ys a b = ap (λ l. l ++ ys) a ∙ b
-
-  pub joins_producer : (by : ℕ) (v : View) (other : ℕ) (u : View) → v.takes ≡ true → v.in_hand ≡ None → v.putting ≡ None → u.putting ≡ None → u.spent ≡ false
-      → Joins (Ring plan) by v other u (with_producer v u) spent_view
-  joins_producer by v other u takes_is empty idle theirs_idle live s r at apart there =
-      let w = with_producer v u in
+  pub joins_producer : (by : ℕ) (v : View) (other : ℕ) (u : View) → v.takes ≡ true → v.in_hand ≡ None → v.putting ≡ None → u.putting ≡ None → u.spent ≡ false → u.parts ≡ 1
+      → Joins (Ring plan) by v other u (with_producer v (produced u)) spent_view
+  joins_producer by v other u takes_is empty idle theirs_idle live one s r at apart there =
+      let w = with_producer v (produced u) in
       let s' : RingState = record s { views = set (set s.views by w) other spent_view } in
       let k = r.seats by v at in
       let theirs = r.seats other u (sym (set_else s.views by other w apart) ∙ there) in
@@ -112,7 +110,7 @@ module _ (plan : Plan) where
       let knows : Knows plan s' r.h by w = record {
         claims = record {
           mine = each_append (λ c. (x : Placing) × IsEntered plan.first r.h.log c.place x × (x.claim ≡ c)) v.mine u.mine k.claims.mine theirs.claims.mine;
-          idle = λ e. (both_nil v.mine u.mine (k.claims.idle (omega (arith, e))).0 (theirs.claims.idle (omega (arith, e))).0, idle);
+          idle = λ e. absurd (omega (arith, e));
           putting = λ c is. absurd (some_not_none c (sym is ∙ idle));
         };
         front = λ e. record { own = f.own; next = f.next; freed = f.freed; count = f.count; frames = f.frames; hand = f.hand };
@@ -122,18 +120,18 @@ module _ (plan : Plan) where
         gate = k.gate;
         asked = k.asked;
         room = k.room;
-        met = mets_both s.words r.h.now v.met (u.gate ∷ u.asked ∷ u.room ∷ u.met) k.met (theirs.gate live, (theirs.asked live, (theirs.room live, theirs.met)));
+        met = mets_both s.words r.h.now v.met (u.gate ∷ u.asked ∷ u.room ∷ []) k.met (theirs.gate live, (theirs.asked live, (theirs.room live, tt)));
       } in
-      join s r by v other u w r.h.keeper at apart there f.own empty idle theirs_idle refl (λ p. times-append p v.mine u.mine)
+      join s r by v other u w r.h.keeper at apart there f.own empty idle theirs_idle (omega (arith, one)) (λ p. times-append p v.mine u.mine)
       (seats_joined s s' r.h by other w refl knows (λ j x ne _ e. knows_apart plan s s' r r.h by j x (apart_same plan s r.h by s'.views) ne (r.seats j x e)))
 
   -- ---- the keeper's part comes to the consumer's seat
 
   pub joins_keeper : (by : ℕ) (v : View) (other : ℕ) (u : View) → v.takes ≡ true → v.in_hand ≡ None → v.putting ≡ None
       → u.keeps ≡ true → u.spent ≡ false → u.parts ≡ 0 → u.mine ≡ [] → u.putting ≡ None
-      → Joins (Ring plan) by v other u (with_keeper v u) spent_view
+      → Joins (Ring plan) by v other u (with_keeper v (kept u)) spent_view
   joins_keeper by v other u takes_is empty idle keeps_is live no_parts no_mine theirs_idle s r at apart there =
-      let w = with_keeper v u in
+      let w = with_keeper v (kept u) in
       let s' : RingState = record s { views = set (set s.views by w) other spent_view } in
       let h' : Standing = record r.h { keeper = by } in
       let k = r.seats by v at in

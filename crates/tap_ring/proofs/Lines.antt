@@ -8,7 +8,8 @@ use native.Mathlib.Nat.{add-mod_left}
 use Rattle.tap_frame.specs.Frame.{FrameValue}
 use Rattle.tap_ring.specs.Leaving.{present, slots_from}
 use Rattle.atomic_table.specs.Seated.{TableId}
-use Rattle.tap_ring.specs.Calls.{Token}
+use Rattle.tap_ring.specs.declared.rule.Produced.{Produced}
+use Rattle.tap_ring.specs.Tokens.{Token}
 use Rattle.tap_ring.specs.Finish.{AllOfRing}
 use Rattle.tap_ring.proofs.Kit.{take_next}
 
@@ -146,6 +147,6 @@ set_false_else (x ∷ xs) (suc i) zero ne = refl
 set_false_else (x ∷ xs) (suc i) (suc k) ne = set_false_else xs i k (λ e. ne (ap suc e))
 
 -- the tokens before the last, and the last, are of the ring
-pub ring_parts : (ring : TableId) (ts : List Token) (t : Token) → AllOfRing ring (ts ++ t ∷ []) → AllOfRing ring ts × (t.ring ≡ ring)
+pub ring_parts : (ring : TableId) (ts : List (Token Produced)) (t : Token Produced) → AllOfRing ring (ts ++ t ∷ []) → AllOfRing ring ts × (t.ring ≡ ring)
 ring_parts ring [] t a = (tt, a.0)
 ring_parts ring (x ∷ xs) t a = let r = ring_parts ring xs t a.1 in ((a.0, r.0), r.1)

@@ -1,10 +1,12 @@
 -- This project's own: what each call of a ring promises.
-use Rattle.std.specs.Prelude.{◌≡◌, ◌≢◌, ℕ, ◌+◌, ◌<◌, ◌≤◌, ◌⊎◌, Bool, true, false, List, [], ◌∷◌, ◌++◌, length, None}
+use Rattle.std.specs.Prelude.{◌≡◌, ◌≢◌, ℕ, ◌+◌, ◌<◌, ◌≤◌, ◌⊎◌, Bool, true, false, List, [], ◌∷◌, ◌++◌}
 use Rattle.atomic_table.specs.Seated.{TableId}
 use Rattle.tap_frame.specs.Frame.{FrameValue}
 use Rattle.tap_ring.specs.declared.rule.Moment.{Moment}
 use Rattle.tap_ring.specs.declared.rule.Loaded.{Loaded}
-use Rattle.tap_ring.specs.declared.rule.View.{View}
+use Rattle.tap_ring.specs.declared.rule.Produced.{Produced}
+use Rattle.tap_ring.specs.declared.rule.Consumed.{Consumed}
+use Rattle.tap_ring.specs.declared.rule.Kept.{Kept}
 use Rattle.tap_ring.specs.declared.rule.Plan.{Plan}
 use Rattle.tap_ring.specs.declared.producer.Why.{Why}
 use Rattle.tap_ring.specs.declared.producer.Why.TheVariants.{Gone, Spent, Full, Contended}
@@ -15,7 +17,7 @@ use Rattle.tap_ring.specs.GateWord.{claimed_of, is_shut, epoch_of}
 use Rattle.tap_ring.specs.Moments.{IsLater, IsGone, IsOpen, IsSpent, IsFull, HasRoom, gate_of}
 use Rattle.tap_ring.specs.Turns.{loaded}
 use Rattle.tap_ring.specs.Standing.{EachClaim}
-use Rattle.tap_ring.specs.Steps.{claim, seen_front, with_lifted}
+use Rattle.tap_ring.specs.Steps.{claim}
 
 -- what a ring is to a contract: which one it is, what it was told, and how many slots it has
 pub record RingValue : Type 0 where
@@ -23,70 +25,24 @@ pub record RingValue : Type 0 where
   pub plan : Plan
   pub most : ℕ
 
--- what a token is to a contract: the ring that it is of, and what it knows
-pub record Token : Type 0 where
-  pub ring : TableId
-  pub view : View
+-- ---- to put a frame
 
-abbrev pub token : TableId → View → Token
-token ring view = record { ring = ring; view = view }
-
--- ---- what every call of a token keeps
-
--- nothing that the token saw has fallen, and the claim count is above each place that it had claimed
-pub record SawMore (v w : View) : Type 0 where
+-- nothing that the producer saw has fallen, and the claim count is above each place that it had claimed
+pub record SawMore (v w : Produced) : Type 0 where
   pub gate : IsLater v.gate w.gate
   pub room : IsLater v.room w.room
   pub mine : EachClaim (λ c. c.place < w.gate.claimed) v.mine
 
--- what the token had loaded stands first in what it has loaded
-abbrev pub LoadedMore : View → View → Type 0
+-- what the producer had loaded stands first in what it has loaded
+abbrev pub LoadedMore : Produced → Produced → Type 0
 LoadedMore v w = (more : List Loaded) × (w.loaded ≡ v.loaded ++ more)
 
--- a producer between two calls
-pub record IsProducer (v : View) : Type 0 where
-  pub parts : v.parts ≡ 1
-  pub putting : v.putting ≡ None
-  pub spent : v.spent ≡ false
-
--- a consumer between two calls
-pub record IsConsumer (v : View) : Type 0 where
-  pub takes : v.takes ≡ true
-  pub in_hand : v.in_hand ≡ None
-  pub order : v.freed ≤ v.next
-  pub bound : v.next < CLAIMS_END
-  pub parts : v.parts ≡ 0
-  pub mine : v.mine ≡ []
-  pub putting : v.putting ≡ None
-  pub spent : v.spent ≡ false
-
--- a keeper between two calls
-pub record IsKeeper (v : View) : Type 0 where
-  pub keeps : v.keeps ≡ true
-  pub resizes : v.gate.resizes < RESIZES_END
-  pub opened : v.gate.epoch ≡ length v.opened
-  pub resized : v.gate.resizes ≡ length v.resized
-  pub parts : v.parts ≡ 0
-  pub mine : v.mine ≡ []
-  pub putting : v.putting ≡ None
-  pub spent : v.spent ≡ false
-
--- it is the same token, with the same claims, and the same frames lifted
-pub record SameHands (v w : View) : Type 0 where
-  pub parts : w.parts ≡ v.parts
-  pub mine : w.mine ≡ v.mine
-  pub next : w.next ≡ v.next
-  pub lifted : w.lifted ≡ v.lifted
-  pub freed : w.freed ≡ v.freed
-
--- ---- to put a frame
-
--- the gate was met again: the token had met it so often before, and so often then
+-- the gate was met again: the producer had met it so often before, and so often then
 abbrev pub MetAgain : ℕ → ℕ → Type 0
 MetAgain before then = before < then
 
 -- the gate that this call loaded first was open and not spent; the capacity and the freed count were loaded after it
-pub record Asked (epoch : ℕ) (v w : View) : Type 0 where
+pub record Asked (epoch : ℕ) (v w : Produced) : Type 0 where
   pub open_then : IsOpen epoch w.asked
   pub unspent : ¬ IsSpent w.asked
   pub later : IsLater v.gate w.asked
@@ -96,12 +52,12 @@ pub record Asked (epoch : ℕ) (v w : View) : Type 0 where
   pub loaded_is : w.loaded ≡ v.loaded ++ loaded w.asked.resizes w.asked.capacity ∷ []
 
 -- the claim count that was loaded is by the capacity or more above the freed count that was loaded after it
-abbrev pub FoundFull : View → Type 0
+abbrev pub FoundFull : Produced → Type 0
 FoundFull w = w.room.freed + w.asked.capacity ≤ w.asked.claimed
 
 -- There was room by the numbers loaded, and the exchange met the gate that was loaded. The place is this producer's,
 -- above all its earlier ones: at the exchange the gate was open and there was room.
-pub record Placed (epoch : ℕ) (frame : FrameValue) (place : ℕ) (v w : View) : Type 0 where
+pub record Placed (epoch : ℕ) (frame : FrameValue) (place : ℕ) (v w : Produced) : Type 0 where
   pub asked : Asked epoch v w
   pub found : ¬ FoundFull w
   pub same_gate : gate_of w.gate ≡ gate_of w.asked
@@ -116,7 +72,7 @@ pub record Placed (epoch : ℕ) (frame : FrameValue) (place : ℕ) (v w : View) 
   pub mine : w.mine ≡ v.mine ++ claim place epoch frame ∷ []
 
 -- the gate that this call loaded was shut, or had another epoch
-pub record IsGoneThen (epoch found : ℕ) (shut : Bool) (resizes : ℕ) (v w : View) : Type 0 where
+pub record IsGoneThen (epoch found : ℕ) (shut : Bool) (resizes : ℕ) (v w : Produced) : Type 0 where
   pub gone : IsGone epoch w.gate
   pub found_is : found ≡ w.gate.epoch
   pub shut_is : shut ≡ w.gate.shut
@@ -125,7 +81,7 @@ pub record IsGoneThen (epoch found : ℕ) (shut : Bool) (resizes : ℕ) (v w : V
   pub again : MetAgain v.gate_loads w.gate_loads
 
 -- else, its claim count was at its end
-pub record IsSpentThen (epoch claimed resizes : ℕ) (v w : View) : Type 0 where
+pub record IsSpentThen (epoch claimed resizes : ℕ) (v w : Produced) : Type 0 where
   pub open_then : IsOpen epoch w.gate
   pub spent : IsSpent w.gate
   pub claimed_is : claimed ≡ w.gate.claimed
@@ -134,7 +90,7 @@ pub record IsSpentThen (epoch claimed resizes : ℕ) (v w : View) : Type 0 where
   pub again : MetAgain v.gate_loads w.gate_loads
 
 -- else, there was no room by the numbers loaded, and at the load of the freed count the ring was full
-pub record IsFullThen (epoch claimed freed resizes : ℕ) (v w : View) : Type 0 where
+pub record IsFullThen (epoch claimed freed resizes : ℕ) (v w : Produced) : Type 0 where
   pub asked : Asked epoch v w
   pub found : FoundFull w
   pub full : IsFull w.room
@@ -144,7 +100,7 @@ pub record IsFullThen (epoch claimed freed resizes : ℕ) (v w : View) : Type 0 
   pub order : IsLater w.room w.gate × MetAgain w.room_loads w.gate_loads
 
 -- the gate was another at the exchange; or, where there was no room, it was resized since
-pub record IsContended (epoch expected found resizes : ℕ) (v w : View) : Type 0 where
+pub record IsContended (epoch expected found resizes : ℕ) (v w : Produced) : Type 0 where
   pub asked : Asked epoch v w
   pub expected_is : expected ≡ gate_of w.asked
   pub found_is : found ≡ gate_of w.gate
@@ -154,7 +110,7 @@ pub record IsContended (epoch expected found resizes : ℕ) (v w : View) : Type 
   pub cause : (¬ FoundFull w) ⊎ (FoundFull w × (w.gate.resizes ≢ w.asked.resizes))
 
 -- why a frame comes back
-abbrev pub IsCause : ℕ → Why → ℕ → View → View → Type 0
+abbrev pub IsCause : ℕ → Why → ℕ → Produced → Produced → Type 0
 IsCause epoch (Gone found shut) resizes v w = IsGoneThen epoch found shut resizes v w
 IsCause epoch (Spent claimed) resizes v w = IsSpentThen epoch claimed resizes v w
 IsCause epoch (Full claimed freed) resizes v w = IsFullThen epoch claimed freed resizes v w
@@ -186,30 +142,38 @@ IsSecondLook gate freed asked m (Contended expected found) =
 
 -- ---- to take a frame
 
--- the front place's number was there: its frame is lifted
-abbrev pub IsLifted : FrameValue → View → View → Type 0
-IsLifted frame v w = w ≡ with_lifted frame (seen_front (v.next + 1) v)
-
--- the front place's word wasn't its number at a load of this call
-pub record IsNotReady (place : ℕ) (v w : View) : Type 0 where
-  pub place_is : place ≡ v.next
-  pub front : w.front ≢ place + 1
-  pub seen : w ≡ seen_front w.front v
+-- one more frame is lifted: the front place's number was there
+abbrev pub lifted_one : FrameValue → Consumed → Consumed
+lifted_one frame v = record v {
+  next = v.next + 1;
+  lifted = v.lifted ++ frame ∷ [];
+  front = v.next + 1;
+  front_loads = v.front_loads + 1;
+}
 
 -- one more place is free
-abbrev pub freed_one : View → View
+abbrev pub freed_one : Consumed → Consumed
 freed_one v = record v { freed = v.freed + 1 }
 
+-- the front frame was lifted
+abbrev pub IsLifted : FrameValue → Consumed → Consumed → Type 0
+IsLifted frame v w = w ≡ lifted_one frame v
+
 -- the front frame was lifted, and one place freed
-abbrev pub IsTaken : FrameValue → View → View → Type 0
-IsTaken frame v w = w ≡ freed_one (with_lifted frame (seen_front (v.next + 1) v))
+abbrev pub IsTaken : FrameValue → Consumed → Consumed → Type 0
+IsTaken frame v w = w ≡ freed_one (lifted_one frame v)
+
+-- the front place's word wasn't its number at a load of this call
+pub record IsNotReady (place : ℕ) (v w : Consumed) : Type 0 where
+  pub place_is : place ≡ v.next
+  pub front : w.front ≢ place + 1
+  pub seen : w ≡ record v { front = w.front; front_loads = v.front_loads + 1 }
 
 -- ---- the gate
 
 -- the gate is shut now, and no place is given out; the claim count is the answer
-pub record IsShutNow (claimed : ℕ) (v w : View) : Type 0 where
-  pub same : SameHands v w
-  pub later : SawMore v w
+pub record IsShutNow (claimed : ℕ) (v w : Kept) : Type 0 where
+  pub later : IsLater v.gate w.gate
   pub shut : w.gate.shut ≡ true
   pub claimed_is : claimed ≡ w.gate.claimed
   pub epoch : w.gate.epoch ≡ v.gate.epoch
@@ -218,9 +182,8 @@ pub record IsShutNow (claimed : ℕ) (v w : View) : Type 0 where
   pub resized : (w.resized ≡ v.resized) × (w.resized_from ≡ v.resized_from)
 
 -- the gate is open at the next epoch; no place was given out since the shut
-pub record IsReopened (epoch : ℕ) (v w : View) : Type 0 where
-  pub same : SameHands v w
-  pub later : SawMore v w
+pub record IsReopened (epoch : ℕ) (v w : Kept) : Type 0 where
+  pub later : IsLater v.gate w.gate
   pub shut : w.gate.shut ≡ false
   pub epoch_is : (epoch ≡ v.gate.epoch + 1) × (w.gate.epoch ≡ epoch)
   pub claimed : w.gate.claimed ≡ v.gate.claimed
@@ -229,16 +192,15 @@ pub record IsReopened (epoch : ℕ) (v w : View) : Type 0 where
   pub resized : (w.resized ≡ v.resized) × (w.resized_from ≡ v.resized_from)
 
 -- why the gate stays shut: the two counts that the tokens keep differ; or else there is no further epoch
-abbrev pub KeepsShut : View → ℕ → StaysShut → Type 0
+abbrev pub KeepsShut : Kept → ℕ → StaysShut → Type 0
 KeepsShut v freed (NotDrained claimed freed_then) =
     (claimed ≡ v.gate.claimed) × (freed_then ≡ freed) × (claimed ≢ freed_then)
 KeepsShut v freed EpochsSpent = (v.gate.claimed ≡ freed) × (v.gate.epoch + 1 ≡ EPOCHS_END)
 
 -- the next number of resizes has this capacity; the claim count is the answer, and of a shut gate it stays
-pub record IsResized (capacity claimed : ℕ) (v w : View) : Type 0 where
-  pub same : SameHands v w
+pub record IsResized (capacity claimed : ℕ) (v w : Kept) : Type 0 where
   pub few : v.gate.resizes + 1 < RESIZES_END
-  pub later : SawMore v w
+  pub later : IsLater v.gate w.gate
   pub capacity_is : w.gate.capacity ≡ capacity
   pub resizes : w.gate.resizes ≡ v.gate.resizes + 1
   pub resized : (w.resized ≡ v.resized ++ capacity ∷ []) × (w.resized_from ≡ claimed)

@@ -3,21 +3,23 @@ use Rattle.std.specs.Prelude.{◌≡◌, ℕ, ◌+◌, ◌≤◌, true, List, []
 use Rattle.atomic_table.specs.Seated.{TableId}
 use Rattle.tap_frame.specs.Frame.{FrameValue}
 use Rattle.tap_ring.specs.declared.rule.Claim.{Claim}
-use Rattle.tap_ring.specs.declared.rule.View.{View}
+use Rattle.tap_ring.specs.declared.rule.Produced.{Produced}
+use Rattle.tap_ring.specs.declared.rule.Consumed.{Consumed}
+use Rattle.tap_ring.specs.declared.rule.Kept.{Kept}
 use Rattle.tap_ring.specs.declared.rule.Plan.{Plan}
 use Rattle.tap_ring.specs.declared.rule.Moment.{Moment}
 use Rattle.tap_ring.specs.Moments.{KeepsRoom, IsBefore}
 use Rattle.tap_ring.specs.Turns.{turns_to, IsGiven, EachGiven}
 use Rattle.tap_ring.specs.Standing.{EachClaim, times, within}
-use Rattle.tap_ring.specs.Calls.{Token}
+use Rattle.tap_ring.specs.Tokens.{Token}
 
 -- how many claims of these producers are to the place
-abbrev pub claims_to : ℕ → List Token → ℕ
+abbrev pub claims_to : ℕ → List (Token Produced) → ℕ
 claims_to p [] = 0
 claims_to p (t ∷ ts) = times p t.view.mine + claims_to p ts
 
 -- each of the tokens is of this ring
-abbrev pub AllOfRing : TableId → List Token → Type 0
+abbrev pub AllOfRing : TableId → List (Token Produced) → Type 0
 AllOfRing ring [] = Unit {0}
 AllOfRing ring (t ∷ ts) = (t.ring ≡ ring) × AllOfRing ring ts
 
@@ -26,22 +28,22 @@ abbrev pub StandsIn : ℕ → List FrameValue → Claim → Type 0
 StandsIn first line c = (k : ℕ) × (c.place ≡ first + k) × (slice_get line k ≡ Some c.frame)
 
 -- each of these producers' claims has this
-abbrev pub AllClaims : (Claim → Type 0) → List Token → Type 0
+abbrev pub AllClaims : (Claim → Type 0) → List (Token Produced) → Type 0
 AllClaims P [] = Unit {0}
 AllClaims P (t ∷ ts) = EachClaim P t.view.mine × AllClaims P ts
 
 -- each capacity that these producers loaded was the ring's under its number of resizes
-abbrev pub AllGiven : ℕ → List ℕ → List Token → Type 0
+abbrev pub AllGiven : ℕ → List ℕ → List (Token Produced) → Type 0
 AllGiven first resized [] = Unit {0}
 AllGiven first resized (t ∷ ts) = EachGiven first resized t.view.loaded × AllGiven first resized ts
 
 -- all claims of these producers
-abbrev pub claims_of : List Token → List Claim
+abbrev pub claims_of : List (Token Produced) → List Claim
 claims_of [] = []
 claims_of (t ∷ ts) = t.view.mine ++ claims_of ts
 
 -- what these producers saw last lies before the end
-abbrev pub AllBefore : ℕ → ℕ → Moment → List Token → Type 0
+abbrev pub AllBefore : ℕ → ℕ → Moment → List (Token Produced) → Type 0
 AllBefore claimed freed last [] = Unit {0}
 AllBefore claimed freed last (t ∷ ts) =
     (IsBefore claimed freed last t.view.gate × IsBefore claimed freed last t.view.asked
@@ -55,9 +57,11 @@ EpochsNeverFall claims =
 
 -- What was lifted and what is left are the frames of all places, in order; each place is one producer's claim, once,
 -- with the frame that it put, under the epoch that the keeper's reopenings gave the place. Each capacity that a
--- producer loaded is the ring's of its number of resizes. Where the gate is shut, no place was given out since.
-pub record IsEnd (plan : Plan) (all : List Token) (c k : View) (claimed freed lifted : ℕ) (left : List FrameValue)
-    : Type 0 where
+-- producer loaded is the ring's of its number of resizes. What each saw last lies before. The places that are claimed and
+-- not freed have room under the last capacity, or no place was given out since the last resize; and none was given out
+-- since the gate was shut, where it is.
+pub record IsEnd (plan : Plan) (all : List (Token Produced)) (c : Consumed) (k : Kept)
+    (claimed freed lifted : ℕ) (left : List FrameValue) : Type 0 where
   pub lifted_is : lifted ≡ plan.first + length c.lifted
   pub freed_is : freed ≡ c.freed
   pub claimed_is : claimed ≡ plan.first + length (c.lifted ++ left)

@@ -1,9 +1,10 @@
 -- This project's own: how a ring is emptied at its end.
 use Rattle.std.specs.Prelude.{ℕ, List, [], ◌∷◌, ◌++◌, take, drop, Option, Some, None}
 use Rattle.tap_frame.specs.Frame.{FrameValue}
+use Rattle.tap_ring.specs.declared.rule.Produced.{Produced}
 use Rattle.tap_ring.specs.declared.rule.View.{View}
 use Rattle.tap_ring.specs.Steps.{with_producer}
-use Rattle.tap_ring.specs.Calls.{Token}
+use Rattle.tap_ring.specs.Tokens.{Token}
 
 -- the frames that lie in these slots, in order
 abbrev pub present : List (Option FrameValue) → List FrameValue
@@ -16,6 +17,6 @@ abbrev pub slots_from : ℕ → List (Option FrameValue) → List (Option FrameV
 slots_from start xs = drop start xs ++ take start xs
 
 -- what a seat knows that took over what these producers knew
-abbrev pub gathered : View → List Token → View
+abbrev pub gathered : View → List (Token Produced) → View
 gathered v [] = v
 gathered v (t ∷ ts) = with_producer (gathered v ts) t.view

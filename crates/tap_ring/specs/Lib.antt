@@ -3,6 +3,7 @@ pub mod Moments
 pub mod Turns
 pub mod Standing
 pub mod Steps
+pub mod Tokens
 pub mod Calls
 pub mod Finish
 pub mod Leaving

@@ -74,8 +74,8 @@ abbrev pub EachPast : List ℕ → Moment → List Moment → Type 0
 EachPast words now [] = Unit {0}
 EachPast words now (m ∷ ms) = IsPast words now m × EachPast words now ms
 
--- What a token saw lies before the ring's end: no count was above its last one, and a gate that was shut is shut still or
--- was reopened.
+-- What a token saw lies before the ring's end: no count was above its last one, and a gate that was shut is shut still,
+-- or was reopened.
 pub record IsBefore (claims_end freed_end : ℕ) (last : Moment) (m : Moment) : Type 0 where
   pub claimed : m.claimed ≤ claims_end
   pub freed : m.freed ≤ freed_end

@@ -237,14 +237,6 @@ new_producers plan parts = record {
   front_loads = 0;
 }
 
--- the consumer, as it begins
-abbrev pub new_consumer : Plan → View
-new_consumer plan = record (new_producers plan 0) { takes = true }
-
--- the keeper, as it begins
-abbrev pub new_keeper : Plan → View
-new_keeper plan = record (new_producers plan 0) { keeps = true }
-
 -- the first seat, when it is so many producers still, and the consumer and the keeper
 abbrev pub maker_of : Plan → ℕ → View
 maker_of plan parts = record (new_producers plan parts) { takes = true; keeps = true }

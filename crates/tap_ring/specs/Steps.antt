@@ -5,6 +5,8 @@ use Rattle.atomic_table.specs.Table.{Me, Step, rest}
 use Rattle.tap_frame.specs.Frame.{FrameValue}
 use Rattle.tap_ring.specs.declared.rule.Moment.{Moment}
 use Rattle.tap_ring.specs.declared.rule.Claim.{Claim}
+use Rattle.tap_ring.specs.declared.rule.Produced.{Produced}
+use Rattle.tap_ring.specs.declared.rule.Kept.{Kept}
 use Rattle.tap_ring.specs.declared.rule.View.{View}
 use Rattle.tap_ring.specs.declared.rule.Plan.{Plan}
 use Rattle.tap_ring.specs.declared.gate.TheConstants.{CLAIMS_END}
@@ -177,16 +179,16 @@ abbrev pub the_consumer : View → View
 the_consumer v = record v { parts = 0; keeps = false }
 
 -- a producer's claims and loads come to another seat
-abbrev pub with_producer : View → View → View
+abbrev pub with_producer : View → Produced → View
 with_producer v w = record v {
-  parts = v.parts + w.parts;
+  parts = v.parts + 1;
   mine = v.mine ++ w.mine;
   loaded = v.loaded ++ w.loaded;
-  met = v.met ++ w.gate ∷ w.asked ∷ w.room ∷ w.met;
+  met = v.met ++ w.gate ∷ w.asked ∷ w.room ∷ [];
 }
 
 -- the keeper's part comes to another seat
-abbrev pub with_keeper : View → View → View
+abbrev pub with_keeper : View → Kept → View
 with_keeper v w = record v {
   keeps = true;
   opened = w.opened;
@@ -203,7 +205,7 @@ no_plan = record { first = 0; capacity = 0; producers = 0 }
 abbrev pub spent_view : View
 spent_view = record (new_producers no_plan 0) { spent = true }
 
--- ---- a whole claim
+-- ---- several steps
 
 -- the place was claimed at this moment, at which the gate was the expected one, and the frame was put there
 abbrev pub ClaimedThen : FrameValue → ℕ → View → View → Type 0
@@ -214,3 +216,11 @@ ClaimedThen frame place v w =
 -- the exchange met another gate word
 abbrev pub MissedThen : ℕ → ℕ → View → View → Type 0
 MissedThen gate found v w = (m : Moment) × (found ≡ gate_of m) × (gate ≢ found) × IsNew v m × (w ≡ seen_gate m v)
+
+-- the front place's number was there: its frame is lifted
+abbrev pub LiftedThen : FrameValue → View → View → Type 0
+LiftedThen frame v w = w ≡ with_lifted frame (seen_front (v.next + 1) v)
+
+-- it wasn't
+abbrev pub NotReadyThen : ℕ → View → View → Type 0
+NotReadyThen place v w = (place ≡ v.next) × (w.front ≢ place + 1) × (w ≡ seen_front w.front v)

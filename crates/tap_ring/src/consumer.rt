@@ -2,7 +2,9 @@
 
 ghost use Rattle.std.specs.Prelude.{◌≡◌, ℕ, ◌+◌, ◌^◌, ◌<◌, ◌≤◌, true, [], IfSome, IfNone, IfOk, IfErr};
 ghost use Rattle.tap_frame.specs.Frame.{FrameValue};
-ghost use Rattle.tap_ring.specs.Calls.{token, IsConsumer, IsLifted, IsNotReady, IsTaken, freed_one};
+ghost use Rattle.tap_ring.specs.Steps.{LiftedThen, NotReadyThen};
+ghost use Rattle.tap_ring.specs.Tokens.{token, consumed, IsConsumer};
+ghost use Rattle.tap_ring.specs.Calls.{IsLifted, IsNotReady, IsTaken, freed_one};
 
 use crate::ring::TapRing;
 use crate::rule::{Places, RingSeat};
@@ -23,11 +25,12 @@ pub struct Consumer {
 
 impl Model for Consumer {
     ghost use Rattle.std.specs.Prelude.{◌≡◌, []};
-    ghost use Rattle.tap_ring.specs.Calls.{Token, token, IsConsumer};
+    ghost use Rattle.tap_ring.specs.declared.rule.Consumed.{Consumed};
+    ghost use Rattle.tap_ring.specs.Tokens.{Token, token, consumed, IsConsumer};
 
-    ghost Value = { Token };
+    ghost Value = { Token Consumed };
 
-    ghost view = { λ c. token c.seat.table_id c.seat.me.0 };
+    ghost view = { λ c. token c.seat.table_id (consumed c.seat.me.0) };
 
     ghost invariant = { λ c. IsConsumer c.seat.me.0 × (c.seat.me.1 ≡ []) × (c.front ≡ c.seat.me.0.next)
         × (c.freed ≡ c.seat.me.0.freed) };
@@ -48,8 +51,8 @@ fn take_front(places: &Places, most: u16, seat: &mut RingSeat, place: u64) -> Op
     requires consumer { IsConsumer seat.old.me.0 × (seat.old.me.1 ≡ []) × (place ≡ seat.old.me.0.next) }
     ensures ring { seat.new.table_id ≡ seat.old.table_id }
     ensures consumer { IsConsumer seat.new.me.0 × (seat.new.me.1 ≡ []) }
-    ensures lifted { IfSome result (λ frame. IsLifted frame seat.old.me.0 seat.new.me.0) }
-    ensures not_ready { IfNone result (IsNotReady place seat.old.me.0 seat.new.me.0) }
+    ensures lifted { IfSome result (λ frame. LiftedThen frame seat.old.me.0 seat.new.me.0) }
+    ensures not_ready { IfNone result (NotReadyThen place seat.old.me.0 seat.new.me.0) }
 {
     let slot = (place % u64::from(most)) as usize;
     if load_front(places, seat, slot) != place + 1 {
@@ -64,7 +67,7 @@ impl Consumer {
     // The consumer of a ring that has just been made.
     pub(crate) fn new(seat: RingSeat, first: u64) -> Consumer
         requires { IsConsumer seat.me.0 × (seat.me.1 ≡ []) × (first ≡ seat.me.0.next) × (first ≡ seat.me.0.freed) }
-        ensures { result ≡ token seat.table_id seat.me.0 }
+        ensures { result ≡ token seat.table_id (consumed seat.me.0) }
     {
         Consumer {
             seat,

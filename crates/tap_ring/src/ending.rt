@@ -38,7 +38,6 @@ fn join(places: &Places, seat: &mut RingSeat, p: Producer)
         × (seat.old.me.0.putting ≡ None) × (seat.old.me.1 ≡ []) }
     ensures ring { seat.new.table_id ≡ seat.old.table_id }
     ensures joined { seat.new.me ≡ (with_producer seat.old.me.0 p.view, []) }
-    ensures one { p.view.parts ≡ 1 }
 {
     let Producer { seat: theirs } = p;
     places.join_seat::<TakesProducer>(seat, theirs);

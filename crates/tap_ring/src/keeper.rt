@@ -1,7 +1,8 @@
 //! The keeper shuts, reopens and resizes.
 
 ghost use Rattle.std.specs.Prelude.{◌≡◌, ℕ, ◌+◌, ◌^◌, ◌<◌, ◌≤◌, true, false, [], IfOk, IfErr};
-ghost use Rattle.tap_ring.specs.Calls.{token, IsKeeper, IsShutNow, IsReopened, KeepsShut, IsResized};
+ghost use Rattle.tap_ring.specs.Tokens.{token, kept, IsKeeper};
+ghost use Rattle.tap_ring.specs.Calls.{IsShutNow, IsReopened, KeepsShut, IsResized};
 
 use crate::consumer::Consumer;
 use crate::gate::{EPOCHS_END, RESIZES_END, claimed_of};
@@ -27,11 +28,12 @@ pub struct Keeper {
 
 impl Model for Keeper {
     ghost use Rattle.std.specs.Prelude.{◌≡◌, []};
-    ghost use Rattle.tap_ring.specs.Calls.{Token, token, IsKeeper};
+    ghost use Rattle.tap_ring.specs.declared.rule.Kept.{Kept};
+    ghost use Rattle.tap_ring.specs.Tokens.{Token, token, kept, IsKeeper};
 
-    ghost Value = { Token };
+    ghost Value = { Token Kept };
 
-    ghost view = { λ k. token k.seat.table_id k.seat.me.0 };
+    ghost view = { λ k. token k.seat.table_id (kept k.seat.me.0) };
 
     ghost invariant = { λ k. IsKeeper k.seat.me.0 × (k.seat.me.1 ≡ []) × (k.shut ≡ k.seat.me.0.gate.shut)
         × (k.epoch ≡ k.seat.me.0.gate.epoch) × (k.resizes ≡ k.seat.me.0.gate.resizes)
@@ -59,7 +61,7 @@ impl Keeper {
     pub(crate) fn new(seat: RingSeat, first: u64) -> Keeper
         requires { IsKeeper seat.me.0 × (seat.me.1 ≡ []) × (seat.me.0.gate.shut ≡ true)
             × (seat.me.0.gate.epoch ≡ 0) × (seat.me.0.gate.resizes ≡ 0) × (seat.me.0.gate.claimed ≡ first) }
-        ensures { result ≡ token seat.table_id seat.me.0 }
+        ensures { result ≡ token seat.table_id (kept seat.me.0) }
     {
         Keeper {
             seat,

@@ -6,13 +6,14 @@
 //! [`TapRing::reopen`], [`TapRing::resize`]). No call but `new` takes memory, and none waits.
 //! [`TapRing::finish`] takes all tokens back and gives the frames that are left.
 //!
-//! To a contract a token is what it knows, a [`View`]: its claims or the frames that it lifted, and
-//! what the ring was, a [`Moment`], at the steps by which it saw it.
+//! To a contract a token is what it knows: a producer its claims ([`Produced`]), the consumer the frames
+//! that it lifted ([`Consumed`]), the keeper its reopenings and resizes ([`Kept`]), and what the ring
+//! was, a [`Moment`], at the steps by which it saw it.
 //!
 //! `specs/GateWord.antt` has the gate word, `specs/Turns.antt` what is kept of reopenings and resizes,
 //! `specs/Standing.antt` the rule that holds between any two steps, `specs/Steps.antt` what each kind
-//! of step tells, `specs/Calls.antt` what each call promises, and `specs/Finish.antt` what is so at the
-//! end.
+//! of step tells, `specs/Tokens.antt` what a token is to a contract, `specs/Calls.antt` what each call
+//! promises, and `specs/Finish.antt` what is so at the end.
 #![tactic(auto)]
 
 mod consumer;
@@ -35,4 +36,4 @@ pub use keeper::{Keeper, ResizesSpent, StaysShut};
 pub use making::{MAX_SLOTS, Parts};
 pub use producer::{Producer, PutBack, Why};
 pub use ring::TapRing;
-pub use rule::{Claim, Loaded, Moment, Plan, View};
+pub use rule::{Claim, Consumed, Kept, Loaded, Moment, Plan, Produced};

@@ -2,8 +2,8 @@
 
 ghost use Rattle.std.specs.Prelude.{◌≡◌, ℕ, ◌+◌, ◌^◌, ◌<◌, ◌≤◌, [], replicate, vec_len, vec_capacity, IfOk};
 ghost use Rattle.tap_ring.specs.declared.rule.Plan.{Plan};
-ghost use Rattle.tap_ring.specs.Standing.{maker, maker_of, new_producers, new_consumer, new_keeper, first_words};
-ghost use Rattle.tap_ring.specs.Calls.{token};
+ghost use Rattle.tap_ring.specs.Standing.{maker, maker_of, first_words};
+ghost use Rattle.tap_ring.specs.Tokens.{token, new_producer, new_consumer, new_keeper};
 
 use crate::consumer::Consumer;
 use crate::gate::{CLAIMS_END, TURN};
@@ -45,7 +45,7 @@ fn deal(places: &Places, seat: &mut RingSeat, mut all: Vec<Producer>, count: u16
     requires room { (vec_len all ≡ 0) × (count ≤ vec_capacity all) }
     ensures ring { seat.new.table_id ≡ seat.old.table_id }
     ensures maker { seat.new.me ≡ (maker_of places.now.key 0, []) }
-    ensures producers { result.items ≡ replicate count (token places.now.table_id (new_producers places.now.key 1)) }
+    ensures producers { result.items ≡ replicate count (token places.now.table_id (new_producer places.now.key)) }
 {
     for _ in 0..count {
         let one = places.split_seat::<OneProducer>(seat);
@@ -71,7 +71,7 @@ impl TapRing {
         ensures ring { IfOk result (λ p. (p.ring.most ≡ most)
             × (p.ring.plan ≡ record { first = first; capacity = capacity; producers = producers })) }
         ensures producers { IfOk result
-            (λ p. p.producers.items ≡ replicate producers (token p.ring.ring (new_producers p.ring.plan 1))) }
+            (λ p. p.producers.items ≡ replicate producers (token p.ring.ring (new_producer p.ring.plan))) }
         ensures consumer { IfOk result (λ p. p.consumer ≡ token p.ring.ring (new_consumer p.ring.plan)) }
         ensures keeper { IfOk result (λ p. p.keeper ≡ token p.ring.ring (new_keeper p.ring.plan)) }
     {

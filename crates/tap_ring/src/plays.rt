@@ -127,8 +127,9 @@ pub(crate) struct TakesKeeper;
 
 impl Join<View> for TakesKeeper {
     ghost use Rattle.tap_ring.specs.Steps.{with_keeper, spent_view};
+    ghost use Rattle.tap_ring.specs.Tokens.{kept};
 
-    ghost both = { with_keeper };
+    ghost both = { λ v w. with_keeper v (kept w) };
 
     ghost spent = { spent_view };
 }
@@ -138,8 +139,9 @@ pub(crate) struct TakesProducer;
 
 impl Join<View> for TakesProducer {
     ghost use Rattle.tap_ring.specs.Steps.{with_producer, spent_view};
+    ghost use Rattle.tap_ring.specs.Tokens.{produced};
 
-    ghost both = { with_producer };
+    ghost both = { λ v w. with_producer v (produced w) };
 
     ghost spent = { spent_view };
 }

@@ -5,7 +5,8 @@ ghost use Rattle.tap_frame.specs.Frame.{FrameValue};
 ghost use Rattle.tap_ring.specs.Moments.{Fits, gate_of};
 ghost use Rattle.tap_ring.specs.Steps.{IsNew, seen_gate, ClaimedThen, MissedThen};
 ghost use Rattle.tap_ring.specs.declared.rule.Moment.{Moment};
-ghost use Rattle.tap_ring.specs.Calls.{IsProducer, SawMore, LoadedMore, SameHands, Placed, IsCause, IsOpenWord, RefusesWord, IsSecondLook};
+ghost use Rattle.tap_ring.specs.Tokens.{produced, IsProducer};
+ghost use Rattle.tap_ring.specs.Calls.{SawMore, LoadedMore, Placed, IsCause, IsOpenWord, RefusesWord, IsSecondLook};
 
 use crate::gate::{CLAIMS_END, claimed_of, epoch_of, is_shut, resizes_of};
 use crate::ring::TapRing;
@@ -25,11 +26,12 @@ pub struct Producer {
 
 impl Model for Producer {
     ghost use Rattle.std.specs.Prelude.{◌≡◌, []};
-    ghost use Rattle.tap_ring.specs.Calls.{Token, token, IsProducer};
+    ghost use Rattle.tap_ring.specs.declared.rule.Produced.{Produced};
+    ghost use Rattle.tap_ring.specs.Tokens.{Token, token, produced, IsProducer};
 
-    ghost Value = { Token };
+    ghost Value = { Token Produced };
 
-    ghost view = { λ p. token p.seat.table_id p.seat.me.0 };
+    ghost view = { λ p. token p.seat.table_id (produced p.seat.me.0) };
 
     ghost invariant = { λ p. IsProducer p.seat.me.0 × (p.seat.me.1 ≡ []) };
 }
@@ -155,11 +157,13 @@ fn put(
     requires producer { IsProducer seat.old.me.0 × (seat.old.me.1 ≡ []) }
     ensures ring { seat.new.table_id ≡ seat.old.table_id }
     ensures producer { IsProducer seat.new.me.0 × (seat.new.me.1 ≡ []) }
-    ensures seen_more { SawMore seat.old.me.0 seat.new.me.0 }
-    ensures placed { IfOk result (λ place. Placed epoch frame place seat.old.me.0 seat.new.me.0) }
+    ensures seen_more { SawMore (produced seat.old.me.0) (produced seat.new.me.0) }
+    ensures placed { IfOk result
+        (λ place. Placed epoch frame place (produced seat.old.me.0) (produced seat.new.me.0)) }
     ensures frame_unchanged { IfErr result (λ back. back.frame ≡ frame) }
-    ensures nothing_claimed { IfErr result (λ back. SameHands seat.old.me.0 seat.new.me.0) }
-    ensures cause { IfErr result (λ back. IsCause epoch back.why back.resizes seat.old.me.0 seat.new.me.0) }
+    ensures nothing_claimed { IfErr result (λ back. seat.new.me.0.mine ≡ seat.old.me.0.mine) }
+    ensures cause { IfErr result
+        (λ back. IsCause epoch back.why back.resizes (produced seat.old.me.0) (produced seat.new.me.0)) }
 {
     let gate = load_gate(places, seat);
     let resizes = resizes_of(gate);
@@ -208,7 +212,7 @@ impl TapRing {
         ensures loaded_more { LoadedMore p.old.view p.new.view }
         ensures placed { IfOk result (λ place. Placed epoch frame place p.old.view p.new.view) }
         ensures frame_unchanged { IfErr result (λ back. back.frame ≡ frame) }
-        ensures nothing_claimed { IfErr result (λ back. SameHands p.old.view p.new.view) }
+        ensures nothing_claimed { IfErr result (λ back. p.new.view.mine ≡ p.old.view.mine) }
         ensures cause { IfErr result (λ back. IsCause epoch back.why back.resizes p.old.view p.new.view) }
     {
         put(&self.table.shared, self.most, &mut p.seat, epoch, frame)

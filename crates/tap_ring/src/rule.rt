@@ -35,7 +35,54 @@ pub struct Loaded {
     pub capacity: u16,
 }
 
-/// What a token knows. No value of it is made.
+/// What a producer knows. No value of it is made.
+pub struct Produced {
+    /// The claims that it made, in order.
+    pub mine: LinkedList<Claim>,
+    /// What the ring was when it met the gate last.
+    pub gate: Moment,
+    /// How often it met the gate.
+    pub gate_loads: u64,
+    /// What the ring was when it met the gate last before it loaded a capacity.
+    pub asked: Moment,
+    /// How often it had met the gate then.
+    pub asked_loads: u64,
+    /// The capacities that it loaded, in order.
+    pub loaded: LinkedList<Loaded>,
+    /// What the ring was when it loaded the freed count last.
+    pub room: Moment,
+    /// How often it had met the gate then.
+    pub room_loads: u64,
+}
+
+/// What the consumer knows. No value of it is made.
+pub struct Consumed {
+    /// The front place: the first that it hasn't lifted.
+    pub next: u64,
+    /// The frames that it lifted, in order.
+    pub lifted: LinkedList<Frame>,
+    /// The freed count.
+    pub freed: u64,
+    /// The word that it found at the front place last.
+    pub front: u64,
+    /// How often it loaded the front place's word to see whether its frame is there.
+    pub front_loads: u64,
+}
+
+/// What the keeper knows. No value of it is made.
+pub struct Kept {
+    /// What its last step made of the ring.
+    pub gate: Moment,
+    /// The claim count at each reopening, in order.
+    pub opened: LinkedList<u64>,
+    /// The capacity that each resize was given, in order.
+    pub resized: LinkedList<u16>,
+    /// The claim count at the last resize; the ring's first place where there was none.
+    pub resized_from: u64,
+}
+
+/// What the seat of a token knows, whichever token it is; the first seat is all of them, and so is the
+/// consumer's at the end. No value of it is made.
 pub struct View {
     /// How many of the ring's producers it is.
     pub parts: u64,

@@ -40,7 +40,6 @@ use Rattle.tap_world.specs.StepTurns as rx_turns
 use Rattle.tap_world.specs.StepTransmits as tx_turns
 use Rattle.tap_world.specs.Sound.{holds}
 use Rattle.tap_world.specs.SoundRings.{StandsWith, holds_turn, serves}
-use Rattle.tap_trace.specs.declared.turn.TurnText.{TurnText}
 
 -- a change of a file that leaves gate, owner and capacity
 abbrev pub Leaves : OnFiles → Type 0

@@ -44,7 +44,6 @@ use Rattle.tap_sound.proofs.Rows.{RxGoes, TxGives, TxGoes, rx_kind, rx_step_fits
 use Rattle.tap_sound.proofs.Follows.{AllFollow, Follows, Onto}
 use Rattle.std.specs.Prelude.{option_map, if◌then◌else◌, ◌&&◌, is_none}
 use Rattle.tap_trace.specs.declared.kind.Kind.{Kind}
-use Rattle.tap_trace.specs.declared.turn.TurnText.{TurnText}
 use Rattle.vring_turns.specs.declared.end.End.{End}
 use Rattle.vhost_dev.specs.declared.error.VhostErr.{VhostErr}
 use Rattle.tap_ledger.specs.declared.error.TapErr.{TapErr}

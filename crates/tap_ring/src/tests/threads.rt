@@ -1,10 +1,7 @@
-//! A ring that four threads fill, while one takes, and one shuts, reopens and resizes.
+//! A ring that two threads fill, while a third takes, shuts, resizes and reopens.
 
-ghost use Rattle.std.specs.Prelude.{◌≡◌, ◌<◌, ◌≤◌, [], ◌∷◌, vec_capacity, true};
+ghost use Rattle.std.specs.Prelude.{◌≡◌, ◌≤◌, [], ◌∷◌, vec_capacity, true};
 
-mod line;
-
-use self::line::tend;
 use super::frame_of;
 use crate::{Consumer, Ended, Keeper, MAX_SLOTS, Parts, Producer, PutBack, TapRing, Why};
 use std::alloc::Global;
@@ -15,8 +12,18 @@ use std::thread;
 use std::thread::{Threads, join};
 use tap_frame::{Frame, Name};
 
-// How many frames each of four threads puts.
+// How many frames each of two threads puts.
 const EACH: u32 = 10_000;
+
+// How often the ring is resized, shut, drained and reopened.
+const ROUNDS: u64 = 100;
+
+// How many frames more are taken before each shut, at least: in all rounds together fewer than there
+// are, so that they come to their end.
+const ROUND: u64 = 190;
+
+// How many frames are taken at least. The others fit in the ring, so each producer comes to its end.
+const TAKEN: u64 = 19_500;
 
 // Puts a frame, again and again until it is placed. Follows the gate's epoch.
 fn place<R: Wait + Abort>(
@@ -71,6 +78,55 @@ fn produce<R: Wait + Abort>(
     (p, places)
 }
 
+// Takes frames until all places below this one are free.
+fn take_to<R: Wait + Abort>(
+    rt: &R,
+    ring: &TapRing,
+    c: &mut Consumer,
+    least: u64,
+    line: &mut Vec<Name>,
+)
+    requires { c.old.ring ≡ ring.now.ring }
+    ensures { c.new.ring ≡ c.old.ring }
+{
+    for _ in rt.forever() {
+        if c.freed() >= least {
+            return;
+        }
+        match ring.take(c) {
+            Ok(frame) => line.push(frame.end()).expect(rt, "memory"),
+            Err(_) => thread::yield_now(),
+        }
+    }
+}
+
+// Takes frames, and a hundred times resizes the ring, shuts it, drains it and reopens it. Gives the names
+// of the frames that were taken.
+fn tend<R: Wait + Abort>(
+    rt: &R,
+    alloc: Global,
+    ring: &TapRing,
+    mut c: Consumer,
+    mut k: Keeper,
+) -> (Consumer, Keeper, Vec<Name>)
+    requires ring { (c.ring ≡ ring.now.ring) × (k.ring ≡ ring.now.ring) × (ring.now.most ≡ MAX_SLOTS) }
+    requires shut { k.view.gate.shut ≡ true }
+    ensures { (result.0.ring ≡ ring.now.ring) × (result.1.ring ≡ ring.now.ring) }
+{
+    let mut line = Vec::new(alloc);
+    ring.reopen(&mut k, &c).expect(rt, "a reopening");
+    for round in 0..ROUNDS {
+        let capacity = if round % 2 == 0 { 16 } else { MAX_SLOTS };
+        ring.resize(&mut k, capacity).expect(rt, "a resize");
+        take_to(rt, ring, &mut c, (round + 1) * ROUND, &mut line);
+        let claimed = ring.shut(&mut k);
+        take_to(rt, ring, &mut c, claimed, &mut line);
+        ring.reopen(&mut k, &c).expect(rt, "a reopening");
+    }
+    take_to(rt, ring, &mut c, TAKEN, &mut line);
+    (c, k, line)
+}
+
 // What two producers did.
 #[derive(Drop)]
 struct Two {
@@ -84,9 +140,8 @@ fn produce_two<R: Threads + Wait + Abort + Sync>(
     ring: &TapRing,
     a: Producer,
     b: Producer,
-    actor: u16,
 ) -> Two
-    requires { (a.ring ≡ ring.now.ring) × (b.ring ≡ ring.now.ring) × (actor < 10) }
+    requires { (a.ring ≡ ring.now.ring) × (b.ring ≡ ring.now.ring) }
     ensures { (result.first.0.ring ≡ ring.now.ring) × (result.second.0.ring ≡ ring.now.ring) }
 {
     let (first, second) = join(
@@ -94,21 +149,13 @@ fn produce_two<R: Threads + Wait + Abort + Sync>(
         move || -> (Producer, Vec<u64>)
             requires { a.ring ≡ ring.now.ring }
             ensures { result.0.ring ≡ ring.entry.now.ring }
-        { produce(rt, alloc, ring, a, actor) },
+        { produce(rt, alloc, ring, a, 0) },
         move || -> (Producer, Vec<u64>)
-            requires { (b.ring ≡ ring.now.ring) × (actor < 10) }
+            requires { b.ring ≡ ring.now.ring }
             ensures { result.0.ring ≡ ring.entry.now.ring }
-        { produce(rt, alloc, ring, b, actor + 1) },
+        { produce(rt, alloc, ring, b, 1) },
     );
     Two { first, second }
-}
-
-// What four producers, the consumer and the keeper did.
-#[derive(Drop)]
-struct All {
-    low: Two,
-    high: Two,
-    consumed: (Consumer, Keeper, Vec<Name>),
 }
 
 fn run_all<R: Threads + Wait + Abort + Sync>(
@@ -117,65 +164,26 @@ fn run_all<R: Threads + Wait + Abort + Sync>(
     ring: &TapRing,
     a: Producer,
     b: Producer,
-    d: Producer,
-    e: Producer,
     c: Consumer,
     k: Keeper,
-) -> All
-    requires low { (a.ring ≡ ring.now.ring) × (b.ring ≡ ring.now.ring) }
-    requires high { (d.ring ≡ ring.now.ring) × (e.ring ≡ ring.now.ring) }
+) -> ((Consumer, Keeper, Vec<Name>), Two)
+    requires two { (a.ring ≡ ring.now.ring) × (b.ring ≡ ring.now.ring) }
     requires others { (c.ring ≡ ring.now.ring) × (k.ring ≡ ring.now.ring) × (k.view.gate.shut ≡ true)
         × (ring.now.most ≡ MAX_SLOTS) }
-    ensures low { (result.low.first.0.ring ≡ ring.now.ring) × (result.low.second.0.ring ≡ ring.now.ring) }
-    ensures high { (result.high.first.0.ring ≡ ring.now.ring) × (result.high.second.0.ring ≡ ring.now.ring) }
-    ensures others { (result.consumed.0.ring ≡ ring.now.ring) × (result.consumed.1.ring ≡ ring.now.ring) }
+    ensures others { (result.0.0.ring ≡ ring.now.ring) × (result.0.1.ring ≡ ring.now.ring) }
+    ensures two { (result.1.first.0.ring ≡ ring.now.ring) × (result.1.second.0.ring ≡ ring.now.ring) }
 {
-    let (consumed, (low, high)) = join(
+    join(
         rt,
         move || -> (Consumer, Keeper, Vec<Name>)
             requires { (c.ring ≡ ring.now.ring) × (k.ring ≡ ring.now.ring) × (k.view.gate.shut ≡ true)
                 × (ring.now.most ≡ MAX_SLOTS) }
             ensures { (result.0.ring ≡ ring.entry.now.ring) × (result.1.ring ≡ ring.entry.now.ring) }
         { tend(rt, alloc, ring, c, k) },
-        move || -> (Two, Two)
-            requires { (a.ring ≡ ring.now.ring) × (b.ring ≡ ring.now.ring) × (d.ring ≡ ring.now.ring)
-                × (e.ring ≡ ring.now.ring) }
-            ensures { (result.0.first.0.ring ≡ ring.entry.now.ring)
-                × (result.0.second.0.ring ≡ ring.entry.now.ring) × (result.1.first.0.ring ≡ ring.entry.now.ring)
-                × (result.1.second.0.ring ≡ ring.entry.now.ring) }
-        { produce_four(rt, alloc, ring, a, b, d, e) },
-    );
-    All {
-        low,
-        high,
-        consumed,
-    }
-}
-
-fn produce_four<R: Threads + Wait + Abort + Sync>(
-    rt: &R,
-    alloc: Global,
-    ring: &TapRing,
-    a: Producer,
-    b: Producer,
-    d: Producer,
-    e: Producer,
-) -> (Two, Two)
-    requires low { (a.ring ≡ ring.now.ring) × (b.ring ≡ ring.now.ring) }
-    requires high { (d.ring ≡ ring.now.ring) × (e.ring ≡ ring.now.ring) }
-    ensures low { (result.0.first.0.ring ≡ ring.now.ring) × (result.0.second.0.ring ≡ ring.now.ring) }
-    ensures high { (result.1.first.0.ring ≡ ring.now.ring) × (result.1.second.0.ring ≡ ring.now.ring) }
-{
-    join(
-        rt,
         move || -> Two
             requires { (a.ring ≡ ring.now.ring) × (b.ring ≡ ring.now.ring) }
             ensures { (result.first.0.ring ≡ ring.entry.now.ring) × (result.second.0.ring ≡ ring.entry.now.ring) }
-        { produce_two(rt, alloc, ring, a, b, 0) },
-        move || -> Two
-            requires { (d.ring ≡ ring.now.ring) × (e.ring ≡ ring.now.ring) }
-            ensures { (result.first.0.ring ≡ ring.entry.now.ring) × (result.second.0.ring ≡ ring.entry.now.ring) }
-        { produce_two(rt, alloc, ring, d, e, 2) },
+        { produce_two(rt, alloc, ring, a, b) },
     )
 }
 
@@ -213,58 +221,35 @@ fn whole_line<R: Abort>(rt: &R, mut line: Vec<Name>, ended: Ended) -> Vec<Name> 
     line
 }
 
-// The four producers together again.
-fn together(
-    mut all: Vec<Producer>,
-    a: Producer,
-    b: Producer,
-    d: Producer,
-    e: Producer,
-) -> Vec<Producer>
-    requires room { (all.items ≡ []) × (4 ≤ vec_capacity all) }
-    ensures { result.items ≡ a ∷ b ∷ d ∷ e ∷ [] }
+// The two producers together again.
+fn together(mut all: Vec<Producer>, p: Producer, q: Producer) -> Vec<Producer>
+    requires room { (all.items ≡ []) × (2 ≤ vec_capacity all) }
+    ensures { result.items ≡ p ∷ q ∷ [] }
 {
-    all.push_reserved(a);
-    all.push_reserved(b);
-    all.push_reserved(d);
-    all.push_reserved(e);
+    all.push_reserved(p);
+    all.push_reserved(q);
     all
 }
 
 #[test]
-fn four_threads_put_one_takes_and_one_keeps(rt: HostRuntime) -> Result<(), Fail> {
+fn two_threads_put_while_one_takes_and_keeps(rt: HostRuntime) -> Result<(), Fail> {
     let a = rt.alloc();
-    let all = Vec::with_capacity(a, 4)?;
+    let all = Vec::with_capacity(a, 2)?;
     let Parts {
         ring,
         mut producers,
         consumer,
         keeper,
-    } = TapRing::new(a, MAX_SLOTS, MAX_SLOTS, 0, 4)?;
-    let (Some(p3), Some(p2), Some(p1), Some(p0)) = (
-        producers.pop(),
-        producers.pop(),
-        producers.pop(),
-        producers.pop(),
-    ) else {
+    } = TapRing::new(a, MAX_SLOTS, MAX_SLOTS, 0, 2)?;
+    let (Some(q), Some(p)) = (producers.pop(), producers.pop()) else {
         panic!(rt; "no producer")
     };
-    let All {
-        low,
-        high,
-        consumed,
-    } = run_all(&rt, a, &ring, p0, p1, p2, p3, consumer, keeper);
-    let (c, k, line) = consumed;
-    let (p0, first) = low.first;
-    let (p1, second) = low.second;
-    let (p2, third) = high.first;
-    let (p3, fourth) = high.second;
-    let ended = ring.finish(together(all, p0, p1, p2, p3), c, k);
-    let line = whole_line(&rt, line, ended);
-    assert_eq!(rt; line.len(), 4 * EACH as usize);
-    assert!(rt; stands(&line, &first, 0));
-    assert!(rt; stands(&line, &second, 1));
-    assert!(rt; stands(&line, &third, 2));
-    assert!(rt; stands(&line, &fourth, 3));
+    let ((c, k, line), Two { first, second }) = run_all(&rt, a, &ring, p, q, consumer, keeper);
+    let (p, low) = first;
+    let (q, high) = second;
+    let line = whole_line(&rt, line, ring.finish(together(all, p, q), c, k));
+    assert_eq!(rt; line.len(), 2 * EACH as usize);
+    assert!(rt; stands(&line, &low, 0));
+    assert!(rt; stands(&line, &high, 1));
     Ok(())
 }

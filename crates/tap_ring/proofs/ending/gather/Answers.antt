@@ -21,7 +21,6 @@ loop-p-preserved c =
     let long = ap (λ l. length l) items in
     let more = length-append c.pop.new.self.items (c.in-Some.p ∷ []) in
     let now = ap (λ (m : Seated). m.0.parts) joined in
-    let one = c.join.ensures.one in
     let before = i.parts in
     record {
       ring = c.join.ensures.ring ∙ i.ring;
@@ -35,5 +34,5 @@ loop-p-preserved c =
           ∙ sym (gathered_snoc c.loop-p.seat.me.0 c.pop.new.self.items c.in-Some.p)
           ∙ ap (gathered c.loop-p.seat.me.0) (sym items)
           ∙ i.gathered_so_far;
-      parts = omega (arith, before, long, more, now, one);
+      parts = omega (arith, before, long, more, now);
     }

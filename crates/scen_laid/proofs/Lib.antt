@@ -1,0 +1,12 @@
+mod Histories
+mod Placed
+mod Ranges
+mod Setups
+mod Naming
+mod Ordered
+mod Phased
+mod Laid
+mod SoundRuns
+mod Sent
+mod Generated
+mod Texts

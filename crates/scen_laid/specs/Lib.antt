@@ -1,0 +1,5 @@
+pub mod Declared
+pub mod Phases
+pub mod Laid
+pub mod Runs
+pub mod Generated
