@@ -1,24 +1,22 @@
 -- Generated scenarios are laid.
-use Rattle.std.proofs.Common.{◌≡◌, ℕ, zero, suc, ◌≤◌, Bool, true, false, cond, eqb, List, [], ◌∷◌, ◌++◌, codes, map, filter, refl, sym, ap, subst, ◌∙◌}
-use Rattle.std.proofs.lemmas.List.{append-nil, map-append}
+use Rattle.std.proofs.Common.{◌≡◌, ℕ, zero, suc, ◌≤◌, Bool, true, false, cond, eqb, List, [], ◌∷◌, ◌++◌, codes, map, filter, refl, ap, subst, ◌∙◌}
+use Rattle.std.proofs.lemmas.List.{map-append}
 use Rattle.std.proofs.lemmas.List.Elements.{filter-append}
 use Rattle.scen_words.specs.declared.command.Command.{Command}
 use Rattle.scen_words.specs.declared.declaration.Declaration.{Declaration}
-use Rattle.scen_words.specs.declared.sentence.Sentence.{Sentence}
 use Rattle.scen_words.specs.declared.sentence.Sentence.TheVariants.{Ends}
 use Rattle.scen_words.specs.Laws.{ValuesAreKept, WordsAreKept}
 use Rattle.scen_text.specs.declared.scenario.Line.{Line}
 use Rattle.scen_text.specs.declared.scenario.Phase.{Phase}
 use Rattle.scen_text.specs.declared.scenario.Scenario.{Scenario}
-use Rattle.scen_text.specs.declared.scenario.Script.{Script}
 use Rattle.scen_text.specs.Before.{declarations_of, names_of, phase_of, phases_of, scripts_from, with_name}
-use Rattle.scen_text.specs.Refusals.{Said, said_in}
+use Rattle.scen_text.specs.Refusals.{said_in}
 use Rattle.scen_text.specs.Scenario.{scenario_of}
-use Rattle.scen_gen.specs.Generated.{attachments, generated, has_read, lines, lines_at, read_line, reads, reads_at, send_line, send_of, sends, traffic}
+use Rattle.scen_gen.specs.Generated.{attachments, generated, has_read, lines, lines_at, read_line, reads, send_line, send_of, sends, traffic}
 use Rattle.scen_laid.specs.Generated.{GeneratedIsLaid}
 use Rattle.scen_laid.specs.Laid.{IsLaid}
 use Rattle.scen_laid.proofs.Laid.{said_is_laid}
-use Rattle.scen_laid.proofs.Sent.{Sends, all_accepted, few_said, four, sends_are, sent}
+use Rattle.scen_laid.proofs.Sent.{all_accepted, few_said, four, sends_are, sent}
 
 -- ---- scripts
 

@@ -1,13 +1,10 @@
 -- Each scenario that some text stands for is laid.
-use Rattle.std.proofs.Common.{◌≡◌, ℕ, ◌≤◌, List, [], refl, sym, subst, ◌∙◌, append-nil, le_trans, arith}
+use Rattle.std.proofs.Common.{◌≡◌, ℕ, ◌≤◌, [], sym, subst, ◌∙◌, append-nil, le_trans, arith}
 use Rattle.scen_words.specs.Laws.{SentencesFit, ValuesAreKept, WordsAreKept}
 use Rattle.scen_words.specs.declared.limits.TheConstants.{MAX_BYTES}
-use Rattle.scen_words.specs.declared.sentence.Sentence.{Sentence}
-use Rattle.scen_text.specs.declared.scenario.Scenario.{Scenario}
 use Rattle.scen_text.specs.Before.{names_of, phases_of}
 use Rattle.scen_text.specs.Refusals.{Said}
 use Rattle.scen_text.specs.Scenario.{scenario_of}
-use Rattle.tap_world.specs.Setup.{Setup, nothing_of, setup_of}
 use Rattle.scen_laid.specs.Laid.{IsLaid, ReadIsLaid}
 use Rattle.scen_laid.proofs.Histories.{GivenUpTo, text_given}
 use Rattle.scen_laid.proofs.Naming.{Grows, are_names}

@@ -1,5 +1,5 @@
 -- Commands are numbered one after another, and there are not too many.
-use Rattle.std.proofs.Common.{◌≡◌, ℕ, zero, suc, ◌+◌, ◌<◌, ◌≤◌, Bool, true, false, cond, ◌&&◌, not, leb, List, [], ◌∷◌, ◌++◌, length, filter, Option, Some, None, refl, sym, ap, subst, ◌∙◌, append_assoc, length-append, arith}
+use Rattle.std.proofs.Common.{◌≡◌, ℕ, suc, ◌+◌, ◌≤◌, Bool, true, false, cond, ◌&&◌, leb, List, [], ◌∷◌, ◌++◌, length, filter, Option, Some, None, refl, sym, ap, subst, ◌∙◌, append_assoc, length-append, arith}
 use Rattle.std.proofs.lemmas.Bool.{leb-false}
 use Rattle.std.proofs.lemmas.List.{append-nil}
 use Rattle.std.proofs.lemmas.List.Elements.{filter-append}
@@ -17,7 +17,7 @@ use Rattle.scen_text.specs.Before.{add_line, at_last, command_after, command_cou
 use Rattle.scen_text.specs.Refusals.{is_misplaced}
 use Rattle.tap_sound.specs.Fresh.{AreNumbered, ArePhasesNumbered}
 use Rattle.scen_laid.specs.Phases.{lines_of, turns_of}
-use Rattle.scen_laid.proofs.Histories.{Accepted, was_declared, was_ordered}
+use Rattle.scen_laid.proofs.Histories.{Accepted, was_ordered}
 
 -- ---- the last phase
 

@@ -1,18 +1,16 @@
 -- Each phase of a scenario that isn't refused is one: its actors, its scripts, and what its commands name.
-use Rattle.std.proofs.Common.{◌≡◌, ℕ, zero, suc, ◌+◌, ◌<◌, ◌≤◌, lit<, Bool, true, false, cond, ◌||◌, not, eqb, List, [], ◌∷◌, ◌++◌, length, get_or, map, filter, slice_get, Option, Some, None, IfSome, IsSome, is_some, unwrap_or, refl, sym, ap, subst, ◌∙◌, arith}
+use Rattle.std.proofs.Common.{◌≡◌, ℕ, zero, suc, ◌+◌, ◌<◌, ◌≤◌, lit<, Bool, true, false, ◌||◌, not, eqb, List, [], ◌∷◌, ◌++◌, length, map, filter, slice_get, Option, Some, None, IfSome, IsSome, unwrap_or, refl, sym, ap, subst, ◌∙◌, arith}
 use Rattle.std.specs.List.{AllByRecursion, list_any}
 use Rattle.std.proofs.lemmas.Bool.{ltb-true}
 use Rattle.text_fields.specs.declared.value.Value.{Value}
 use Rattle.text_fields.specs.Forms.{FitForm}
-use Rattle.text_fields.specs.Names.{is_name}
 use Rattle.scen_words.specs.declared.command.Command.{Command}
 use Rattle.scen_words.specs.declared.command.Command.TheVariants.{SetIff, Send}
 use Rattle.scen_words.specs.declared.declaration.Declaration.{Declaration}
 use Rattle.scen_words.specs.declared.sentence.Sentence.{Sentence}
 use Rattle.scen_words.specs.declared.sentence.Sentence.TheVariants.{Skipped, Declares, Orders, Opens, Ends}
 use Rattle.scen_words.specs.declared.word.CommandWord.{CommandWord}
-use Rattle.scen_words.specs.declared.word.CommandWord.TheVariants as command
-use Rattle.scen_words.specs.Commands.{command_of, command_values, command_word, commanded_name, declared_name, file_of, guest_of, name_of, program_of, vhost_of}
+use Rattle.scen_words.specs.Commands.{command_of, command_values, command_word, commanded_name, file_of, guest_of, name_of, program_of, vhost_of}
 use Rattle.scen_words.specs.Laws.{ValuesAreKept, WordsAreKept}
 use Rattle.scen_words.specs.Words.{command_form}
 use Rattle.scen_text.specs.declared.place.Place.{Place}
@@ -23,7 +21,7 @@ use Rattle.scen_text.specs.declared.scenario.Script.{Script}
 use Rattle.scen_text.specs.Before.{add_line, at_last, command_after, declarations_of, line_after, names_of, number_for, phase_of, phases_of, place_of, script_of, scripts_from, with_line, with_name}
 use Rattle.scen_text.specs.Refusals.{is_file, is_guest, is_misplaced, is_program, is_unknown, is_vhost, lacks}
 use Rattle.tap_world.specs.ByNumber.{at}
-use Rattle.tap_world.specs.Setup.{NamesDeclared, Numbered, Setup, device_in, place_among, script_in}
+use Rattle.tap_world.specs.Setup.{NamesDeclared, Numbered, Setup, device_in, place_among}
 use Rattle.scen_laid.specs.Phases.{IsLine, IsPhase, commands_in}
 use Rattle.scen_laid.proofs.Histories.{Accepted, Ordered, or_false, was_declared, was_ordered}
 use Rattle.scen_laid.proofs.Naming.{Grows, grows_trans, named_at, named_within, with_grows}

@@ -1,5 +1,5 @@
 -- The numbers of an accepted declaration are in range.
-use Rattle.std.proofs.Common.{◌≡◌, ℕ, zero, suc, ◌-◌, ◌^◌, ◌%◌, ◌≤◌, ◌<◌, List, [], ◌∷◌, length, replicate, Some, slice_get, refl, arith}
+use Rattle.std.proofs.Common.{ℕ, zero, suc, ◌-◌, ◌^◌, ◌%◌, ◌≤◌, ◌<◌, List, [], ◌∷◌, length, replicate, Some, slice_get, arith}
 use Rattle.text_fields.specs.declared.kind.Shape.TheVariants.{Number}
 use Rattle.text_fields.specs.declared.value.Value.{Value}
 use Rattle.text_fields.specs.declared.value.Value.TheVariants as value

@@ -1,5 +1,5 @@
 -- What a generated scenario's lines say, as a history that isn't refused.
-use Rattle.std.proofs.Common.{◌≡◌, ℕ, zero, suc, ◌+◌, ◌*◌, ◌/◌, ◌%◌, ◌^◌, ◌<◌, ◌≤◌, lit<, Bool, true, false, cond, ◌||◌, eqb, ltb, List, [], ◌∷◌, ◌++◌, codes, length, map, filter, replicate, Option, Some, None, refl, sym, ap, subst, ◌∙◌, append_assoc, mod-lt, arith}
+use Rattle.std.proofs.Common.{◌≡◌, ℕ, zero, suc, ◌+◌, ◌*◌, ◌/◌, ◌%◌, ◌^◌, ◌<◌, ◌≤◌, lit<, Bool, true, false, cond, eqb, ltb, List, [], ◌∷◌, ◌++◌, codes, length, replicate, Option, Some, None, refl, sym, ap, subst, ◌∙◌, append_assoc, mod-lt, arith}
 use Rattle.std.specs.Int.{w16, w32, to_be_bytes}
 use Rattle.std.specs.List.{AllByRecursion, list_all}
 use Rattle.std.proofs.lemmas.Bool.{and_parts, eqb-false, eqb-true, lt-leb, ltb-true}
@@ -24,9 +24,9 @@ use Rattle.scen_text.specs.declared.place.Place.TheVariants.{Block}
 use Rattle.scen_text.specs.declared.scenario.Line.{Line}
 use Rattle.scen_text.specs.declared.scenario.Phase.{Phase}
 use Rattle.scen_text.specs.Before.{add_line, at_last, before, command_after, command_count, declarations_of, is_started, line_after, names_of, number_among, number_for, phase_of, phases_of, place_of, scripts_from, turn_count, with_name}
-use Rattle.scen_text.specs.Refusals.{cause, command_why, declaration_why, is_misplaced, is_unknown, passes_limit, passes_names, regions_of}
+use Rattle.scen_text.specs.Refusals.{cause, command_why, declaration_why, is_misplaced, is_unknown, passes_limit, passes_names}
 use Rattle.scen_gen.specs.Generated.{attachments, datagram, ethernet, file_of, flags, frame_of, has_read, internet, lines, number_of, read_line, read_of, send_line, send_of}
-use Rattle.scen_laid.proofs.Histories.{Accepted, Took}
+use Rattle.scen_laid.proofs.Histories.{Accepted}
 
 -- ---- the lines up to the sends
 

@@ -1,11 +1,7 @@
 -- The runs of a scenario that is laid are sound.
-use Rattle.std.proofs.Common.{◌≡◌, ℕ, Some}
 use Rattle.scen_text.specs.declared.scenario.Scenario.{Scenario}
-use Rattle.tap_world.specs.ByNumber.{at}
 use Rattle.tap_world.specs.Laws.{LeaveInOrder, NameStandsOnce}
-use Rattle.tap_world.specs.Line.{File}
 use Rattle.tap_world.specs.Setup.{setup_of}
-use Rattle.tap_world.specs.Sound.{IsSound}
 use Rattle.tap_world.specs.World.{World}
 use Rattle.tap_sound.specs.Fresh.{NamesAreNew}
 use Rattle.tap_sound.specs.SoundRuns.{ReachedIsSound, RunIsSound}

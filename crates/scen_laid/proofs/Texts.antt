@@ -1,9 +1,9 @@
 -- The text of a generated scenario is read as the history of its lines.
-use Rattle.std.proofs.Common.{◌≡◌, ℕ, zero, suc, ◌+◌, ◌*◌, ◌/◌, ◌%◌, ◌<◌, ◌≤◌, lit<, Bool, true, false, cond, ◌&&◌, not, ltb, eqb, List, [], ◌∷◌, ◌++◌, codes, length, map, Option, Some, None, Result, Ok, Err, refl, sym, ap, subst, ◌∙◌, append_assoc, length-append, mod-lt, arith}
+use Rattle.std.proofs.Common.{◌≡◌, ℕ, zero, suc, ◌+◌, ◌*◌, ◌/◌, ◌%◌, ◌<◌, ◌≤◌, lit<, Bool, true, false, cond, ◌&&◌, not, ltb, List, [], ◌∷◌, ◌++◌, codes, length, map, None, Result, Ok, Err, refl, sym, ap, subst, ◌∙◌, append_assoc, length-append, mod-lt, arith}
 use Rattle.std.specs.Fmt.{decimal}
 use Rattle.std.specs.Int.{w16, to_be_bytes}
 use Rattle.std.specs.List.{join_with_byte, list_all}
-use Rattle.std.proofs.lemmas.Bool.{and_parts, le-ltb}
+use Rattle.std.proofs.lemmas.Bool.{le-ltb}
 use Rattle.std.proofs.lemmas.Fmt.{decimal_digit, length-decimal-le}
 use Rattle.std.proofs.lemmas.List.{append-nil, map-append}
 use Rattle.std.proofs.lemmas.List.Folds.{list_all-append}
@@ -14,7 +14,7 @@ use Rattle.scen_words.specs.declared.fault.Why.{Why}
 use Rattle.scen_words.specs.declared.fault.Why.TheVariants as why
 use Rattle.scen_words.specs.declared.limits.TheConstants.{MAX_BYTES}
 use Rattle.scen_words.specs.declared.sentence.Sentence.{Sentence}
-use Rattle.scen_words.specs.declared.sentence.Sentence.TheVariants.{Declares, Orders, Opens, Ends}
+use Rattle.scen_words.specs.declared.sentence.Sentence.TheVariants.{Declares, Orders, Ends}
 use Rattle.scen_words.specs.declared.word.CommandWord.TheVariants as command
 use Rattle.scen_words.specs.declared.word.DeclarationWord.TheVariants as declaration
 use Rattle.scen_words.specs.Commands.{command_values, declaration_values}
@@ -22,12 +22,11 @@ use Rattle.scen_words.specs.Field.{line, text}
 use Rattle.scen_words.specs.Laws.{ActorsAreReadAgain, CommandsAreReadAgain, DeclarationsAreReadAgain, EndingsAreReadAgain, OpeningsAreReadAgain}
 use Rattle.scen_words.specs.Rows.{declaration_row}
 use Rattle.scen_words.specs.Sentences.{sentence_of, version_of}
-use Rattle.scen_text.specs.declared.fault.ScenFault.{ScenFault}
 use Rattle.scen_text.specs.declared.scenario.Line.{Line}
 use Rattle.scen_text.specs.Before.{before}
 use Rattle.scen_text.specs.Refusals.{cause, said_from, said_in, said_of, said_of_lines}
 use Rattle.tap_ground.specs.Lists.{is_nil}
-use Rattle.scen_text.specs.Scenario.{Stands, scenario_of}
+use Rattle.scen_text.specs.Scenario.{scenario_of}
 use Rattle.scen_text.specs.ScenarioText.{actor_row, bare_row, ending_row, opening_row, scenario_rows, scenario_text}
 use Rattle.scen_gen.specs.Generated.{attached, file_of, flags, frame_of, generated, has_read, lines, lines_at, read_line, send_line, traffic}
 use Rattle.scen_laid.specs.Generated.{GeneratedStands}

@@ -33,15 +33,15 @@ LeavesInOrder w =
     → slice_get f.line i ≡ Some d → slice_get f.line j ≡ Some e → e.stands ≡ Out fate
     → (is_cut d.stands ≡ true) ⊎ (rank d.stands ≡ 0)
 
--- of each ring, the k-th entry of a list of positions that the trace tells is the k-th chain that was published, once
+-- of each ring, the k-th entry of a list of positions that the trace tells has the k-th position from its base on
 abbrev pub HasCountedRings : World → Type 0
 HasCountedRings w =
     (vhost ring : ℕ) (v : Vhost) → at w.vhosts vhost ≡ Some v
     → AllByRecursion IsCounted
     (lists_from (ring_at ring v.settings).lists (ring_at ring v.settings).queue.positions.journal)
 
--- It is sound, in all parts; so each name stands at most once, frames leave lines in order, and published chains are
--- counted.
+-- It is sound, in all parts; so each name stands at most once, frames leave lines in order, and published chains have
+-- their positions in order.
 pub record IsSoundWorld (s : Scenario) (w : World) : Type 0 where
   pub sound : IsSound (setup_of s) w
   pub once : (n : Name) → times w n ≤ 1

@@ -144,7 +144,7 @@ learns_frame c k x t a = true
 
 abbrev pub is_of_frame : Case → OpAt → Bool
 is_of_frame c o =
-    not (is_learning o.op)
+    not (is_learning o.op) || length (answers_told c o.at.command) == 0
     || option_map_or
     (λ (x : Asked). list_any (learns_frame c x.command o.op x.told) (answers_told c o.at.command))
     (asked_at c o.at.command) false

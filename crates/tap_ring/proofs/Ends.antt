@@ -12,6 +12,7 @@ use Rattle.tap_ring.specs.declared.rule.Moment.{Moment}
 use Rattle.tap_ring.specs.declared.rule.Claim.{Claim}
 use Rattle.tap_ring.specs.declared.rule.Produced.{Produced}
 use Rattle.tap_ring.specs.declared.rule.Kept.{Kept}
+use Rattle.tap_ring.specs.declared.gate.TheConstants.{CLAIMS_END}
 use Rattle.tap_ring.specs.declared.rule.View.{View}
 use Rattle.tap_ring.specs.declared.rule.Plan.{Plan}
 use Rattle.tap_ring.specs.GateWord.{claimed_of}
@@ -318,6 +319,7 @@ ended plan words slots id n claimed v w k all final count is parts takes_is empt
           (r.sizes.given r.h.now.resizes (le_refl r.h.now.resizes));
       room = subst (λ (x : ℕ × ℕ × ℕ × ℕ). KeepsRoom x.0 x.1 x.2 x.3) (λ i. (sym now i, now_freed i, now_capacity i, from_k i)) r.room;
       order = (omega (arith, c2, freed_w), omega (arith, c3, freed_w, next_w), omega (arith, c4, next_w, now));
+      bound = subst (λ (m : ℕ). m < CLAIMS_END) (sym now) r.fits.claimed;
       turns = (
         ap (λ (m : Moment). m.epoch) (sym gate_w) ∙ kept.epoch ∙ r.turns.count ∙ ap length opened_k,
         ap (λ (m : Moment). m.resizes) (sym gate_w) ∙ kept.resizes ∙ r.sizes.count ∙ ap length resized_k,

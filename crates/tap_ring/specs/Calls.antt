@@ -41,7 +41,7 @@ LoadedMore v w = (more : List Loaded) × (w.loaded ≡ v.loaded ++ more)
 abbrev pub MetAgain : ℕ → ℕ → Type 0
 MetAgain before then = before < then
 
--- the gate that this call loaded first was open and not spent; the capacity and the freed count were loaded after it
+-- a gate that this call loaded was open and not spent; the capacity and the freed count were loaded after it
 pub record Asked (epoch : ℕ) (v w : Produced) : Type 0 where
   pub open_then : IsOpen epoch w.asked
   pub unspent : ¬ IsSpent w.asked
@@ -171,7 +171,7 @@ pub record IsNotReady (place : ℕ) (v w : Consumed) : Type 0 where
 
 -- ---- the gate
 
--- the gate is shut now, and no place is given out; the claim count is the answer
+-- the gate is shut now; the claim count is the answer
 pub record IsShutNow (claimed : ℕ) (v w : Kept) : Type 0 where
   pub later : IsLater v.gate w.gate
   pub shut : w.gate.shut ≡ true

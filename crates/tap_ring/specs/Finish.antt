@@ -1,7 +1,8 @@
 -- This project's own: what is so at the end of a ring, when all its tokens are back.
-use Rattle.std.specs.Prelude.{◌≡◌, ℕ, ◌+◌, ◌≤◌, true, List, [], ◌∷◌, ◌++◌, length, slice_get, Contains, Some}
+use Rattle.std.specs.Prelude.{◌≡◌, ℕ, ◌+◌, ◌<◌, ◌≤◌, true, List, [], ◌∷◌, ◌++◌, length, slice_get, Contains, Some}
 use Rattle.atomic_table.specs.Seated.{TableId}
 use Rattle.tap_frame.specs.Frame.{FrameValue}
+use Rattle.tap_ring.specs.declared.gate.TheConstants.{CLAIMS_END}
 use Rattle.tap_ring.specs.declared.rule.Claim.{Claim}
 use Rattle.tap_ring.specs.declared.rule.Produced.{Produced}
 use Rattle.tap_ring.specs.declared.rule.Consumed.{Consumed}
@@ -57,7 +58,8 @@ EpochsNeverFall claims =
 
 -- What was lifted and what is left are the frames of all places, in order; each place is one producer's claim, once,
 -- with the frame that it put, under the epoch that the keeper's reopenings gave the place. Each capacity that a
--- producer loaded is the ring's of its number of resizes. What each saw last lies before. The places that are claimed and
+-- producer loaded is the ring's of its number of resizes. What each saw last lies before. No place is above the last one
+-- that there is. The places that are claimed and
 -- not freed have room under the last capacity, or no place was given out since the last resize; and none was given out
 -- since the gate was shut, where it is.
 pub record IsEnd (plan : Plan) (all : List (Token Produced)) (c : Consumed) (k : Kept)
@@ -74,6 +76,7 @@ pub record IsEnd (plan : Plan) (all : List (Token Produced)) (c : Consumed) (k :
   pub last_capacity : IsGiven plan.capacity k.resized k.gate.resizes k.gate.capacity
   pub room : KeepsRoom claimed freed k.gate.capacity k.resized_from
   pub order : (plan.first ≤ freed) × (freed ≤ lifted) × (lifted ≤ claimed)
+  pub bound : claimed < CLAIMS_END
   pub turns : (k.gate.epoch ≡ length k.opened) × (k.gate.resizes ≡ length k.resized)
   pub later : k.gate.claimed ≤ claimed
   pub still : k.gate.shut ≡ true → claimed ≡ k.gate.claimed

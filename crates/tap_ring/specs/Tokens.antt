@@ -1,5 +1,5 @@
 -- This project's own: what a token of a ring is to a contract, and what its seat knows between two calls.
-use Rattle.std.specs.Prelude.{◌≡◌, ℕ, ◌<◌, ◌≤◌, true, false, [], length, None}
+use Rattle.std.specs.Prelude.{◌≡◌, ◌<◌, ◌≤◌, true, false, [], length, None}
 use Rattle.atomic_table.specs.Seated.{TableId}
 use Rattle.tap_ring.specs.declared.rule.Produced.{Produced}
 use Rattle.tap_ring.specs.declared.rule.Consumed.{Consumed}

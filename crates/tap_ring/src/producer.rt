@@ -57,7 +57,7 @@ pub enum Why {
 pub struct PutBack {
     pub frame: Frame,
     pub why: Why,
-    /// The number of resizes, below `RESIZES_END`, in the gate word that the call loaded first.
+    /// The number of resizes, below `RESIZES_END`, in the gate word by which the call judged.
     pub resizes: u8,
 }
 

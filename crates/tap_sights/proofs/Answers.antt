@@ -47,11 +47,11 @@ module _ (c : Case) (s : Sighted c) (a : AnswerAt) (i : In a c.answers) where
       let from = (s.answers a i).from in
       let h = before_seen c s a.told told in
       let g = greatest_to (λ (o : OpAt). nat_lt o.phase a.told.phase) c.ops a.seen (λ o j e.
-          let f = s.ops.each o j in
-          let phase = f.phase in
-          let l = ltb-true o.phase a.told.phase e in
-          let r = seen_earlier c s a.told told o j (earlier_is_before f.by.told a.told (omega (arith, l, phase))) in
-          omega (arith, r, from)) in
+      let f = s.ops.each o j in
+      let phase = f.phase in
+      let l = ltb-true o.phase a.told.phase e in
+      let r = seen_earlier c s a.told told o j (earlier_is_before f.by.told a.told (omega (arith, l, phase))) in
+      omega (arith, r, from)) in
       and_from (nat_le (seen_before c a.told) a.seen) (nat_le (newest_before c a.told.phase) a.seen)
       (le-leb (seen_before c a.told) a.seen (omega (arith, h, from)))
       (le-leb (newest_before c a.told.phase) a.seen g)
@@ -124,7 +124,7 @@ answers_are_legal c s =
     (none_fails of_answer answers_one c.answers (λ a i. ap is_some (s.shape.asked a i).2)))
     (none_breaks of_answer is_another IsAhead c.answers ahead_is_another s.shape.ahead))
     (none_fails (λ (x : Asked). c.end) (has_answer c) c.asked (λ x i.
-        let r = s.shape.answered x i in any_in (λ (a : AnswerAt). same_told a.told x.told) c.answers r.0 r.1 (same_told_refl r.0.told x.told r.2))))
+    let r = s.shape.answered x i in any_in (λ (a : AnswerAt). same_told a.told x.told) c.answers r.0 r.1 (same_told_refl r.0.told x.told r.2))))
     (none_fails of_answer (is_seen_from c) c.answers (seen_from c s)))
     (none_fails of_answer (is_seen_own c) c.answers (seen_own c s)))
     (none_fails of_answer (is_seen_to c) c.answers (seen_to c s)))

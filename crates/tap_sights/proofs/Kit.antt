@@ -1,7 +1,6 @@
 -- Lists of lines, and tests over them.
 use Rattle.std.proofs.Common.{◌≡◌, ◌⊎◌, ℕ, zero, suc, ◌+◌, ◌-◌, ◌≤◌, ◌<◌, cond, List, [], ◌∷◌, ◌++◌, length, map, Option, Some, None, Bool, true, false, refl, sym, ap, ◌∙◌, subst, inl, inr, ⊎_elim, true≢false, arith}
 use Rattle.std.specs.Prelude.{◌&&◌, ◌||◌, not, max, filter, filter_map, find, flat_map, slice_get}
-
 use Rattle.std.specs.List.{cons_option, list_all, list_any}
 use Rattle.std.specs.Option.{option_map_or}
 use Rattle.std.proofs.lemmas.Bool.{and_from, or_left, or_right, or_from, cases_Bool, cases_lt}
@@ -157,9 +156,9 @@ in_versions : (test : ℕ → Bool) (low n v : ℕ) → low ≤ v → v < low + 
 in_versions test low zero v from to e = absurd (omega (arith, from, to))
 in_versions test low (suc n) v from to e = ⊎_elim
     (λ above. or_right (test low) (list_any test (versions (low + 1) n))
-        (in_versions test (low + 1) n v (omega (arith, above)) (omega (arith, to)) e))
+    (in_versions test (low + 1) n v (omega (arith, above)) (omega (arith, to)) e))
     (λ le. let same : low ≡ v = omega (arith, from, le) in
-        or_left (test low) (list_any test (versions (low + 1) n)) (ap test same ∙ e))
+    or_left (test low) (list_any test (versions (low + 1) n)) (ap test same ∙ e))
     (cases_lt low v)
 
 pub some_is : (test : ℕ → Bool) (low high v : ℕ) → low ≤ v → v ≤ high → test v ≡ true → some_version low high test ≡ true

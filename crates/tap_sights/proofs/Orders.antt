@@ -84,8 +84,8 @@ no_later_phase c s t told o i le =
     let phase = f.phase in
     ⊎_elim
     (λ later.
-        let l = s.ops.later t o f.by told i f.is (earlier_is_before t f.by.told (omega (arith, later, phase))) in
-        absurd (omega (arith, l, le)))
+    let l = s.ops.later t o f.by told i f.is (earlier_is_before t f.by.told (omega (arith, later, phase))) in
+    absurd (omega (arith, l, le)))
     (λ same. same)
     (cases_lt t.phase o.phase)
 
@@ -93,11 +93,11 @@ pub no_later_own : (c : Case) (s : Sighted c) (t : Told) → IsTold c t → (o :
     → is_later_own c t o ≡ false
 no_later_own c s t told o i le = ⊎_elim
     (λ e.
-        let f = s.ops.each o i in
-        let next : is_own_next t f.by.told ≡ true =
-            sym (ap (λ (q : Option Asked). option_map_or (λ (x : Asked). is_own_next t x.told) q false) f.is) ∙ e in
-        let l = s.ops.later t o f.by told i f.is (next_is_before t f.by.told next) in
-        absurd (omega (arith, l, le)))
+    let f = s.ops.each o i in
+    let next : is_own_next t f.by.told ≡ true =
+    sym (ap (λ (q : Option Asked). option_map_or (λ (x : Asked). is_own_next t x.told) q false) f.is) ∙ e in
+    let l = s.ops.later t o f.by told i f.is (next_is_before t f.by.told next) in
+    absurd (omega (arith, l, le)))
     (λ e. e)
     (cases_Bool (is_later_own c t o))
 
@@ -139,8 +139,8 @@ op_phase c s a i o now =
     let le = no_later_phase c s a.told told o now.there now.to in
     ⊎_elim
     (λ sooner.
-        let l = seen_earlier c s a.told told o now.there (earlier_is_before f.by.told a.told (omega (arith, sooner, phase))) in
-        absurd (omega (arith, l, from, above)))
+    let l = seen_earlier c s a.told told o now.there (earlier_is_before f.by.told a.told (omega (arith, sooner, phase))) in
+    absurd (omega (arith, l, from, above)))
     (λ ge. omega (arith, le, ge))
     (cases_lt o.phase a.told.phase)
 

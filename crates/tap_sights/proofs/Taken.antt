@@ -121,8 +121,8 @@ module _ (c : Case) (s : Sighted c) where
       let parts = and_parts (d.at.name.actor == e.at.name.actor && d.at.name.turn == e.at.name.turn) (d.at.name.part == e.at.name.part) same in
       let turn = eqb-true d.at.name.turn e.at.name.turn (and_parts (d.at.name.actor == e.at.name.actor) (d.at.name.turn == e.at.name.turn) parts.0).1 in
       let told = same_asker c s.shape g.placed g.there f.placed.told.command
-          (record { told = f.placed.told; command = (s.shape.asked f.placed f.there).0 }) (s.shape.asked f.placed f.there).1
-          (f.command ∙ turn ∙ sym g.command) in
+      (record { told = f.placed.told; command = (s.shape.asked f.placed f.there).0 }) (s.shape.asked f.placed f.there).1
+      (f.command ∙ turn ∙ sym g.command) in
       let one = one_answer c s.shape f.placed g.placed f.there g.there told in
       let same_answer = sym f.is ∙ ap (λ (a : AnswerAt). a.answer) one ∙ g.is in
       (files _ _ _ _ _ _ _ _ same_answer, places _ _ _ _ _ _ _ _ same_answer)
@@ -160,15 +160,15 @@ module _ (c : Case) (s : Sighted c) where
   pub takers_took : (e : EntryAt) → In e c.entries → (b : Told) → In b (readers c e ++ copiers c e ++ purgers c e) → Took c s.seen b e.file e.at.place
   takers_took e i b j = ⊎_elim
       (λ l. ⊎_elim
-          (λ k.
-              let m = in_map (λ (a : AnswerAt). a.told) _ b k in
-              let r = in_filter (λ (a : AnswerAt). option_map_or (λ p. p == e.at.place) (taken_from e.file a) false) c.answers m.0 m.1 in
-              subst (λ t. Took c s.seen t e.file e.at.place) m.2 (reader m.0 r.0 (taken_from e.file m.0) refl r.1))
-          (λ k.
-              let m = in_filter_map (λ (x : StepAt). told_of c x.at.command) (copies_of c e.at.name) b k in
-              let r = in_filter (λ (x : StepAt). option_map_or (same_name e.at.name) (copied x.at.kind) false) c.steps m.0 m.1 in
-              copy_took e i m.0 r.0 b (copied m.0.at.kind) refl r.1 m.2)
-          (in_append b (readers c e) (copiers c e) l))
+      (λ k.
+      let m = in_map (λ (a : AnswerAt). a.told) _ b k in
+      let r = in_filter (λ (a : AnswerAt). option_map_or (λ p. p == e.at.place) (taken_from e.file a) false) c.answers m.0 m.1 in
+      subst (λ t. Took c s.seen t e.file e.at.place) m.2 (reader m.0 r.0 (taken_from e.file m.0) refl r.1))
+      (λ k.
+      let m = in_filter_map (λ (x : StepAt). told_of c x.at.command) (copies_of c e.at.name) b k in
+      let r = in_filter (λ (x : StepAt). option_map_or (same_name e.at.name) (copied x.at.kind) false) c.steps m.0 m.1 in
+      copy_took e i m.0 r.0 b (copied m.0.at.kind) refl r.1 m.2)
+      (in_append b (readers c e) (copiers c e) l))
       (λ k. purge_took e e.at.fate (s.lines.each e i).fate b k)
       (in_append b (readers c e ++ copiers c e) (purgers c e) j)
     where

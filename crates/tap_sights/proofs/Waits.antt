@@ -58,8 +58,7 @@ module _ (c : Case) (s : Sighted c) (cuts : CutsAreTold c s.seen) where
       let d = t.0 in
       let both = and_parts (was_cut d.at.fate) (same_told (s.seen.taker d) m.0.0.told) t.4 in
       let h = cut_from d d.at.fate (s.lines.each d t.1).fate both.0 in
-      let by = told_same (s.seen.taker d) m.0.0.told both.1 ∙ m.2 in
-      (
+      let by = told_same (s.seen.taker d) m.0.0.told both.1 ∙ m.2 in (
         subst (IsTold c) by (told_is c s.shape h.resize.at.command (s.seen.taker d) h.by),
         subst (λ n. (s.seen.before b).out n ≤ e.at.place) t.2
             (subst (λ q. (s.seen.before b).out d.file ≤ q) (t.3 ∙ eqb-true w.0 e.at.place w.2)
@@ -70,20 +69,20 @@ module _ (c : Case) (s : Sighted c) (cuts : CutsAreTold c s.seen) where
       → has_left_below c t file place e ≡ true
   below t told file place out e i = ⊎_elim
       (λ same. ⊎_elim
-          (λ under. or_right (not (e.file == file && nat_lt e.at.place place)) _
-              (and_from (not (waits e.at.fate)) (not (is_taken_after c t e))
-              (ap not (s.lines.left t e told i (subst (λ n. e.at.place < (s.seen.after t).out n) (sym same) (omega (arith, under, out)))))
-              (ap not (none_any (λ b. is_before t b) (readers c e ++ copiers c e ++ purgers c e ++ cutters c e) (λ b j.
-                  false_from_ne_true (is_before t b) (λ was.
-                  let f = from b j in
-                  let r = subst (λ n. (s.seen.after t).out n ≤ (s.seen.before b).out n) same ((s.rise t b told f.0 was).out e.file) in
-                  let l = subst (λ n. (s.seen.before b).out n ≤ e.at.place) same f.1 in
-                  omega (arith, r, l, under, out)))))))
-          (λ above. or_left (not (e.file == file && nat_lt e.at.place place)) _
-              (ap not (and_right (e.file == file) (nat_lt e.at.place place) (le-ltb e.at.place place above))))
-          (cases_lt e.at.place place))
+      (λ under. or_right (not (e.file == file && nat_lt e.at.place place)) _
+      (and_from (not (waits e.at.fate)) (not (is_taken_after c t e))
+      (ap not (s.lines.left t e told i (subst (λ n. e.at.place < (s.seen.after t).out n) (sym same) (omega (arith, under, out)))))
+      (ap not (none_any (λ b. is_before t b) (readers c e ++ copiers c e ++ purgers c e ++ cutters c e) (λ b j.
+      false_from_ne_true (is_before t b) (λ was.
+      let f = from b j in
+      let r = subst (λ n. (s.seen.after t).out n ≤ (s.seen.before b).out n) same ((s.rise t b told f.0 was).out e.file) in
+      let l = subst (λ n. (s.seen.before b).out n ≤ e.at.place) same f.1 in
+      omega (arith, r, l, under, out)))))))
+      (λ above. or_left (not (e.file == file && nat_lt e.at.place place)) _
+      (ap not (and_right (e.file == file) (nat_lt e.at.place place) (le-ltb e.at.place place above))))
+      (cases_lt e.at.place place))
       (λ other. or_left (not (e.file == file && nat_lt e.at.place place)) _
-          (ap not (and_left (e.file == file) (nat_lt e.at.place place) (ne_eqb e.file file other))))
+      (ap not (and_left (e.file == file) (nat_lt e.at.place place) (ne_eqb e.file file other))))
       (cases_eq e.file file)
     where
       from : (b : Told) → In b (readers c e ++ copiers c e ++ purgers c e ++ cutters c e) → IsTold c b × ((s.seen.before b).out e.file ≤ e.at.place)
@@ -120,18 +119,18 @@ module _ (c : Case) (s : Sighted c) (cuts : CutsAreTold c s.seen) where
           at_end 0 no (omega (arith, to, no))
       go (Some f) is = ⊎_elim
           (λ under.
-              let w = there_is (place - d.0.first) f.part.lines (omega (arith, under, first, claimed)) in
-              let e = in_entries (f.line + 1) f.part.file f.part.lines (place - d.0.first) w.0 w.1 in
-              let at = d.2.places (place - d.0.first) w.0 w.1 in
-              let there : In e.0 c.entries = subst (In e.0) (sym s.shape.entries) (in_flat_map entries_of c.files f e.0 here e.1) in
-              let named = in_filter_of (λ (x : EntryAt). x.file == file) c.entries e.0 there (eq-eqb e.0.file file (e.2 ∙ number)) in
-              let at_place = ap (λ l. l.place) e.3 in
-              let same : e.0.at.place ≡ place = omega (arith, at_place, at, first) in
-              inr (subst (λ (p : ℕ). In p (map (λ (x : EntryAt). x.at.place) (filter (λ (x : EntryAt). x.file == file) c.entries))) same
-              (in_map_of (λ (x : EntryAt). x.at.place) (filter (λ (x : EntryAt). x.file == file) c.entries) e.0 named)))
+          let w = there_is (place - d.0.first) f.part.lines (omega (arith, under, first, claimed)) in
+          let e = in_entries (f.line + 1) f.part.file f.part.lines (place - d.0.first) w.0 w.1 in
+          let at = d.2.places (place - d.0.first) w.0 w.1 in
+          let there : In e.0 c.entries = subst (In e.0) (sym s.shape.entries) (in_flat_map entries_of c.files f e.0 here e.1) in
+          let named = in_filter_of (λ (x : EntryAt). x.file == file) c.entries e.0 there (eq-eqb e.0.file file (e.2 ∙ number)) in
+          let at_place = ap (λ l. l.place) e.3 in
+          let same : e.0.at.place ≡ place = omega (arith, at_place, at, first) in
+          inr (subst (λ (p : ℕ). In p (map (λ (x : EntryAt). x.at.place) (filter (λ (x : EntryAt). x.file == file) c.entries))) same
+          (in_map_of (λ (x : EntryAt). x.at.place) (filter (λ (x : EntryAt). x.file == file) c.entries) e.0 named)))
           (λ over.
-              let to = h.to in
-              at_end f.part.claimed claims (omega (arith, to, claims, over)))
+          let to = h.to in
+          at_end f.part.claimed claims (omega (arith, to, claims, over)))
           (cases_lt place f.part.claimed)
         where
           here : In f c.files

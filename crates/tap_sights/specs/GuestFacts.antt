@@ -1,5 +1,5 @@
 -- This project's own: what the guests' steps tell, and the packets of the files.
-use Rattle.std.specs.Prelude.{◌≡◌, ℕ, ◌+◌, ◌≤◌, ◌<◌, ◌==◌, ◌&&◌, length, map, filter, filter_map, flat_map, slice_get, Bool, true, false, is_some, List, [], ◌∷◌, Option, Some, None}
+use Rattle.std.specs.Prelude.{◌≡◌, ℕ, ◌+◌, ◌≤◌, ◌<◌, ◌==◌, ◌&&◌, length, map, filter, filter_map, flat_map, slice_get, Bool, true, false, is_some, List, [], ◌∷◌, Option, Some, None, IfSome}
 use Rattle.std.specs.Option.{option_map_or}
 use Rattle.guest_mem.specs.declared.region.Region.{Region}
 use Rattle.tap_frame.specs.declared.name.Name.{Name}
@@ -81,6 +81,12 @@ flows_by command ds =
 
 -- ---- a guest
 
+-- no act of a command comes behind the one that gives its answer
+abbrev pub IsNotAfterAnswer : Act × Done → Act × Done → Type 0
+IsNotAfterAnswer d e = d.0.told ≡ e.0.told → d.1.answer ≡ None
+
+-- The acts on a guest are a fold from its zeros; the steps that they print are its lines. Each command on it that has
+-- steps is done, once. A transmit turn serves the file of its ring, if it has one, and learnt only of its frames.
 pub record GuestTells (c : Case) (s : Seen) (guest : ℕ) (regions : List Region) (done : List (Act × Done)) : Type 0 where
   pub acts : List Act
   pub folds : all_done c guest acts (first_state c guest regions) ≡ Some done
@@ -88,9 +94,10 @@ pub record GuestTells (c : Case) (s : Seen) (guest : ℕ) (regions : List Region
   pub each : (d : Act × Done) → In d done → ActTells c d
   pub whole : (x : Asked) → In x c.asked → guest_named c x.command ≡ Some guest → has_steps x.command ≡ true
       → (d : Act × Done) × In d done × (d.0.told ≡ x.told) × (is_some d.1.answer ≡ true)
-  pub learnings : (a : AnswerAt) (vhost file : ℕ) → In a c.answers → a.asked ≡ Some (command.TxTurn vhost)
-      → at c.setup.vhosts vhost ≡ Some guest → served_by c a.told.command ≡ Some file
-      → TurnLearns c s a file (flows_by a.told.command done)
+  pub once : Ordered IsNotAfterAnswer done
+  pub learnings : (a : AnswerAt) (vhost : ℕ) → In a c.answers → a.asked ≡ Some (command.TxTurn vhost)
+      → at c.setup.vhosts vhost ≡ Some guest
+      → (file : ℕ) × IfSome (served_by c a.told.command) (λ f. f ≡ file) × TurnLearns c s a file (flows_by a.told.command done)
   pub rings : (n : ℕ) (v : Vhost) (p : RingPart) → at (last_state (first_state c guest regions) done).vhosts n ≡ Some v
       → In p (ring_parts (n, v)) → (r : RingAt) × In r c.rings × (r.vhost ≡ p.vhost) × (r.ring ≡ p.ring) × (r.lists ≡ p.lists)
 

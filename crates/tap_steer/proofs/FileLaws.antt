@@ -12,11 +12,11 @@ use Rattle.tap_steer.specs.declared.operation.Op.{Op}
 use Rattle.tap_steer.specs.declared.operation.Op.TheVariants as op
 use Rattle.tap_steer.specs.declared.operation.TheConstants.{IFF_ATTACH_QUEUE, IFF_DETACH_QUEUE}
 use Rattle.tap_steer.specs.declared.settings.Settings.{Settings}
-use Rattle.tap_steer.specs.Table.{Table, new_file, first, file_at, device_of, home, is_set, with_file}
+use Rattle.tap_steer.specs.Table.{Table, new_file, first, file_at, device_of, home, is_enabled, is_set, with_file}
 use Rattle.tap_ground.specs.Options.{first_that_holds}
 use Rattle.tap_steer.specs.Rules.{attach_rules, detach_rules, no_flag_rules, has_device, is_backed, refuse, resize_rules, set_iff_rules, shut_rules}
 use Rattle.tap_steer.specs.After.{attached_file, backed, standing, set_iff, enabled, disabled, left, attach_queue, detach_queue, shut, set_at, set_device, learn_at, learn, tick, back, resized, resize, after, after_all}
-use Rattle.tap_steer.specs.Laws.{AreLawful, HaveNumbersLeft, IsInUse, StaysOrIsEnabled}
+use Rattle.tap_steer.specs.Laws.{AreLawful, HaveNumbersLeft, IsInUse, StaysOrIsEnabled, StaysOrIsResized}
 use Rattle.tap_steer.proofs.SoundLemmas.{file_same, file_other}
 use Rattle.tap_steer.proofs.Lawful.{all_unbroken, join_has_epoch}
 
@@ -146,19 +146,41 @@ module _ (t : Table) (Free : Op → Type 0) (P : File → File → Type 0) (c : 
 abbrev Any : Op → Type 0
 Any o = Unit {0}
 
+backed_stands : (side : Side) (vhost : Option ℕ) (f : File) → (backed side vhost f).attachment ≡ f.attachment
+backed_stands Rx vhost f = refl
+backed_stands Tx vhost f = refl
+
+backed_sizes : (side : Side) (vhost : Option ℕ) (f : File) → ((backed side vhost f).resizes ≡ f.resizes) × ((backed side vhost f).capacity ≡ f.capacity)
+backed_sizes Rx vhost f = (refl, refl)
+backed_sizes Tx vhost f = (refl, refl)
+
 backed_epoch : (side : Side) (vhost : Option ℕ) (f : File) → (backed side vhost f).epoch ≡ f.epoch
 backed_epoch Rx vhost f = refl
 backed_epoch Tx vhost f = refl
 
 rising : (t : Table) → Changes t Any StaysOrIsEnabled
 rising t = record {
-  same = λ f. inl refl;
+  same = λ f. inl (refl, λ e. e);
   attaches = λ f device. inr (refl, refl);
-  disables = λ f device is. inl refl;
-  closes = λ file free. inl refl;
-  backs = λ file side vhost free. inl (backed_epoch side vhost (file_at t file));
-  resizes = λ f capacity. inl refl;
+  disables = λ f device is. inl (refl, λ e. absurd (true≢false (sym e)));
+  closes = λ file free. inl (refl, λ e. absurd (true≢false (sym e)));
+  backs = λ file side vhost free. inl
+      (backed_epoch side vhost (file_at t file), λ e. sym (ap is_enabled (backed_stands side vhost (file_at t file))) ∙ e);
+  resizes = λ f capacity. inl (refl, λ e. e);
 }
+
+resizing : (t : Table) → Changes t Any StaysOrIsResized
+resizing t = record {
+  same = λ f. inl (refl, refl);
+  attaches = λ f device. inl (refl, refl);
+  disables = λ f device is. inl (refl, refl);
+  closes = λ file free. inl (refl, refl);
+  backs = λ file side vhost free. inl (backed_sizes side vhost (file_at t file));
+  resizes = λ f capacity. inr refl;
+}
+
+pub resizes_rise_by_one : (t : Table) (operation : Op) (file : ℕ) → StaysOrIsResized (file_at t file) (file_at (after t operation) file)
+resizes_rise_by_one t operation file = changes_each t Any StaysOrIsResized (resizing t) operation tt file
 
 pub epochs_rise_by_one : (t : Table) (operation : Op) (file : ℕ) → StaysOrIsEnabled (file_at t file) (file_at (after t operation) file)
 epochs_rise_by_one t operation file = changes_each t Any StaysOrIsEnabled (rising t) operation tt file
@@ -168,7 +190,7 @@ abbrev IsLater : File → File → Type 0
 IsLater f g = f.epoch ≤ g.epoch
 
 later : (f g : File) → StaysOrIsEnabled f g → IsLater f g
-later f g (inl stays) = omega (arith, stays)
+later f g (inl stays) = omega (arith, stays.0)
 later f g (inr rises) = omega (arith, rises.0)
 
 pub epochs_never_fall : (t : Table) (operations : List Op) (file : ℕ) → (file_at t file).epoch ≤ (file_at (after_all t operations) file).epoch

@@ -33,14 +33,25 @@ EpochsNeverFall =
     (t : Table) (operations : List Op) (file : ℕ)
     → (file_at t file).epoch ≤ (file_at (after_all t operations) file).epoch
 
--- a file's epoch stays, or its queue is enabled under the next one
+-- a file's epoch stays, and its queue isn't enabled where it wasn't; or its queue is enabled under the next epoch
 abbrev pub StaysOrIsEnabled : File → File → Type 0
-StaysOrIsEnabled f g = (g.epoch ≡ f.epoch) ⊎ ((g.epoch ≡ f.epoch + 1) × (is_enabled g.attachment ≡ true))
+StaysOrIsEnabled f g =
+    ((g.epoch ≡ f.epoch) × (is_enabled g.attachment ≡ true → is_enabled f.attachment ≡ true))
+    ⊎ ((g.epoch ≡ f.epoch + 1) × (is_enabled g.attachment ≡ true))
 
--- an operation raises an epoch by one at most, and only where it enables the file's queue
+-- an operation raises an epoch by one at most, and only where it enables the file's queue; so each epoch is enabled once
 abbrev pub EpochsRiseByOne : Type 0
 EpochsRiseByOne =
     (t : Table) (operation : Op) (file : ℕ) → StaysOrIsEnabled (file_at t file) (file_at (after t operation) file)
+
+-- a file's capacity stays and so does the number of its resizes, or that number rises by one
+abbrev pub StaysOrIsResized : File → File → Type 0
+StaysOrIsResized f g =
+    ((g.resizes ≡ f.resizes) × (g.capacity ≡ f.capacity)) ⊎ (g.resizes ≡ f.resizes + 1)
+
+abbrev pub ResizesRiseByOne : Type 0
+ResizesRiseByOne =
+    (t : Table) (operation : Op) (file : ℕ) → StaysOrIsResized (file_at t file) (file_at (after t operation) file)
 
 -- A file with a device was attached, so its epoch is at least 1. Only a file with a device is the backend of a ring.
 pub record IsInUse (f : File) : Type 0 where

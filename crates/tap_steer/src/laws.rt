@@ -1,7 +1,7 @@
 //! What holds of the table after any lawful operations.
 
 ghost use Rattle.tap_steer.specs.Examples.{QueuesComeAndGo, NoQueueIsLeft, FlagsAreRefused, RepliesComeBack, FlowsGo, ProgramsSteerAndCut, ProgramsDrop, DevicesPersist, ResizesEnd};
-ghost use Rattle.tap_steer.specs.Laws.{ReachedIsSound, EpochsNeverFall, EpochsRiseByOne, FilesAreInUse, RowsAreEnabled, NumbersAreLeft, DevicesHaveFiles, StaysOverClose, IsFoundAgain, NamesStay};
+ghost use Rattle.tap_steer.specs.Laws.{ReachedIsSound, EpochsNeverFall, EpochsRiseByOne, ResizesRiseByOne, FilesAreInUse, RowsAreEnabled, NumbersAreLeft, DevicesHaveFiles, StaysOverClose, IsFoundAgain, NamesStay};
 
 /// After lawful operations a file's queue stands in the rows of one device, once and at its own epoch, where it is
 /// enabled, and else nowhere. A device has at most 256 queues, and its flows lead to its rows.
@@ -14,9 +14,15 @@ pub fn epochs_never_fall()
     ensures { EpochsNeverFall }
 {}
 
-/// An operation leaves a file's epoch, or enables its queue under the next one.
+/// An operation leaves a file's epoch and doesn't enable its queue, or enables it under the next epoch: so each epoch is
+/// enabled once and ended once.
 pub fn epochs_rise_by_one()
     ensures { EpochsRiseByOne }
+{}
+
+/// An operation leaves a file's capacity and the number of its resizes, or that number rises by one.
+pub fn resizes_rise_by_one()
+    ensures { ResizesRiseByOne }
 {}
 
 /// After lawful operations a file with a device has an epoch of at least 1, and a backend has a device.

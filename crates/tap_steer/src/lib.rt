@@ -23,7 +23,8 @@ mod tests;
 pub use files::{Attachment, File};
 pub use laws::{
     devices_have_files, epochs_never_fall, epochs_rise_by_one, files_are_in_use, names_stay,
-    numbers_are_left, persistent_devices_stay, reached_is_sound, rows_are_enabled, worked_examples,
+    numbers_are_left, persistent_devices_stay, reached_is_sound, resizes_rise_by_one,
+    rows_are_enabled, worked_examples,
 };
 pub use operation::{
     IFF_ATTACH_QUEUE, IFF_DETACH_QUEUE, IFF_MULTI_QUEUE, IFF_NO_PI, IFF_TAP, IFF_TUN_EXCL,

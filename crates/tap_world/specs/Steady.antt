@@ -1,10 +1,11 @@
 -- This project's own: what else holds in every world that a run of a laid scenario can reach, beside what is sound, in
--- ten parts. With both, the next event of each actor that needn't wait is allowed, and what an answer tells was so.
-use Rattle.std.specs.Prelude.{◌≡◌, ℕ, ◌+◌, ◌<◌, ◌≤◌, true, false, List, [], ◌++◌, length, map, slice_get, Option, Some, None, IfSome, IsSome, option_map}
-use Rattle.std.specs.List.{AllByRecursion}
+-- eleven parts. With both, the next event of each actor that needn't wait is allowed, and what an answer tells was so.
+use Rattle.std.specs.Prelude.{◌≡◌, ◌≢◌, ◌⊎◌, Bool, ℕ, suc, ◌+◌, ◌<◌, ◌≤◌, true, false, List, [], ◌++◌, length, map, slice_get, Option, Some, None, IfSome, IsSome, option_map}
+use Rattle.std.specs.List.{AllByRecursion, list_any}
 use Rattle.tap_frame.specs.declared.header.Hdr.{Hdr}
 use Rattle.tap_frame.specs.declared.name.Name.{Name}
 use Rattle.tap_ledger.specs.declared.side.Side.{Side}
+use Rattle.tap_ledger.specs.declared.side.Side.TheVariants.{Rx, Tx}
 use Rattle.tap_queues.specs.declared.queues.Row.{Row as QueueRow}
 use Rattle.tap_steer.specs.declared.operation.Op.{Op}
 use Rattle.tap_steer.specs.declared.operation.Op.TheVariants as op
@@ -14,8 +15,11 @@ use Rattle.tap_steer.specs.Rules.{backer, refuse}
 use Rattle.tap_steer.specs.Select as steer
 use Rattle.vhost_dev.specs.Settings.{hdr_of}
 use Rattle.vring_turns.specs.Ring.{done_in}
-use Rattle.vring_turns.specs.Stage.{has_in_hand, is_giving, rx_is_over, tx_is_over}
+use Rattle.vring_turns.specs.Stage.{has_in_hand, is_giving, need_at, rx_is_over, tx_is_over}
 use Rattle.vring_turns.specs.Ready.{RxReady, TxReady}
+use Rattle.vring_turns.specs.declared.stage.After.TheVariants as after
+use Rattle.vring_turns.specs.declared.stage.RxStage.{RxStage}
+use Rattle.vring_turns.specs.declared.stage.RxStage.TheVariants as rx
 use Rattle.vring_turns.specs.RxTurn.{RxTurn}
 use Rattle.vring_turns.specs.TxTurn.{TxTurn}
 use Rattle.scen_words.specs.declared.command.Command.{Command}
@@ -28,7 +32,8 @@ use Rattle.tap_ground.specs.Options.{only_if}
 use Rattle.tap_world.specs.ByNumber.{at}
 use Rattle.tap_world.specs.Frames.{Front, bad_in, ether_in, least_in, sent_bytes, sent_front}
 use Rattle.tap_world.specs.Setup.{Declared, NamesDeclared, Numbered, Setup, line_of, op_of, script_in}
-use Rattle.tap_world.specs.Line.{Entry, File, claimed, is_over}
+use Rattle.tap_world.specs.Effect.{ending}
+use Rattle.tap_world.specs.Line.{Entry, File, claimed, freed, is_over}
 use Rattle.tap_world.specs.LineSteps.{is_in_hand_of}
 use Rattle.tap_world.specs.Guests.{Guest, Vhost, is_ring}
 use Rattle.tap_world.specs.World.{Actor, Doing, Published, Said, World, current, name_of, newest, table, table_at}
@@ -147,9 +152,27 @@ IsStillLawful s w =
 
 -- ---- 5: turns
 
+-- the bytes of the chains that were too few for a frame which is discarded next
+abbrev pub had_at : RxStage → Option ℕ
+had_at rx.Begin = None
+had_at rx.Hand = None
+had_at rx.Fetch = None
+had_at rx.NoticesOn = None
+had_at rx.FetchAgain = None
+had_at (rx.NoticesOff after.Fetch) = None
+had_at (rx.NoticesOff after.Copy) = None
+had_at (rx.NoticesOff (after.Discard had)) = Some had
+had_at (rx.NoticesOff (after.PutBack end)) = None
+had_at rx.Copy = None
+had_at rx.Out = None
+had_at (rx.Discard had) = Some had
+had_at (rx.PutBack end) = None
+had_at (rx.Publish end) = None
+had_at (rx.Ended end) = None
+
 -- A receive turn on a file has more to do. Its ring has the file as its backend, whose worker owns the file; its
--- vhost's settings are those that it began with; it is ready for its next step; and it has a frame in hand exactly where
--- its stage says so: the front of the file's batch.
+-- vhost's settings are those that it began with; it is ready for its next step; it has a frame in hand exactly where its
+-- stage says so: the front of the file's batch; and a frame that is discarded needs more than its chains had.
 pub record IsReceiving (s : Setup) (w : World) (vhost file : ℕ) (t : RxTurn) : Type 0 where
   pub v : Vhost
   pub f : File
@@ -163,6 +186,7 @@ pub record IsReceiving (s : Setup) (w : World) (vhost file : ℕ) (t : RxTurn) :
   pub ready : RxReady t v.settings.rx.queue
   pub in_hand : is_in_hand_of vhost f ≡ has_in_hand t.stage
   pub front : has_in_hand t.stage ≡ true → front_frame s f ≡ t.held
+  pub overruns : IfSome (had_at t.stage) (λ had. had < need_at t.header t.held)
 
 -- A transmit turn on a file, whose frames have the names from this one on, has more to do. Its ring has the file as its
 -- backend; its vhost's header is that which it began with; it is ready for its next step; and the chain whose frame it
@@ -226,7 +250,7 @@ pub record IsWritten (t : Table) (file : ℕ) (bytes ether : List ℕ) : Type 0 
   pub accepted : bad_in front bytes ≡ None
   pub behind : ether ≡ ether_in front bytes
 
--- what a command found by its look, in the table that it looked at
+-- what a command found by its look, in the table that it looked at; and the file that an unset took off its ring
 abbrev pub FoundIn : Table → Command → Doing → Type 0
 FoundIn t (command.Send device hdr bytes) (Routed file epoch len) = IsRouted t device hdr bytes file epoch len
 FoundIn t (command.Send device hdr bytes) (Placed file place epoch len) = IsRouted t device hdr bytes file epoch len
@@ -237,6 +261,9 @@ FoundIn t (command.Write other bytes) (Hosts file ether learns) =
 FoundIn t (command.Write other bytes) (Learns file ether) =
     IsWritten t file bytes ether × (steer.learns t file ≡ true)
 FoundIn t (command.Backend vhost ring file) (Backs refusal) = back_refusal t vhost ring file ≡ refusal
+FoundIn t (command.Backend vhost ring None) (Unbacked file) = backer Rx (file_at t file) ≡ Some vhost
+FoundIn t (command.Backend vhost ring None) (Disowned file) = backer Rx (file_at t file) ≡ Some vhost
+FoundIn t (command.Backend vhost ring None) (Released file) = backer Tx (file_at t file) ≡ Some vhost
 FoundIn t (command.TxTurn vhost) (Teaches file turn chains frame) = steer.learns t file ≡ true
 FoundIn t c doing = Unit {0}
 
@@ -247,12 +274,26 @@ version_in (Purges file version) = Some version
 version_in (Owns file version) = Some version
 version_in doing = None
 
+-- a command learns flows, and this operation is one that it learnt
+abbrev pub IsLearntBy : Command → Op → Type 0
+IsLearntBy (command.TxTurn vhost) (op.Learn file flow) = Unit {0}
+IsLearntBy c x = ⊥
+
+-- an operation of the command under way made a version that its actor has seen: the one that it says, or a learning
+pub record IsOwn (a : Actor) (c : Numbered) (version : ℕ) (p : Published) : Type 0 where
+  pub seen : version ≤ a.seen
+  pub known : (version_in a.doing ≡ Some version) ⊎ IsLearntBy c.command p.op
+
 -- What a command found is so at the version that its actor has seen. While it holds the writer, that is the newest one,
--- and the one that it has published, if it has published one.
+-- and the one that it has published, if it has published one. It has published no other operation but learnings.
 pub record HasFound (s : Setup) (w : World) (a : Actor) : Type 0 where
   pub found : (c : Numbered) → current a.script ≡ Some c → FoundIn (table_at s w a.seen) c.command a.doing
   pub newest : holds a.doing ≡ true → a.seen ≡ newest w
   pub published : IfSome (version_in a.doing) (λ version. version ≡ a.seen)
+  pub its : (c : Numbered) (version : ℕ) → current a.script ≡ Some c → version_in a.doing ≡ Some version
+      → (i : ℕ) × (p : Published) × (version ≡ suc i) × (slice_get w.ops i ≡ Some p) × (p.command ≡ c.number)
+  pub own : (c : Numbered) (i : ℕ) (p : Published) → current a.script ≡ Some c → slice_get w.ops i ≡ Some p
+      → p.command ≡ c.number → IsOwn a c (suc i) p
 
 -- ---- 8: what was told
 
@@ -317,28 +358,47 @@ pub record AreOperations (s : Setup) (w : World) : Type 0 where
 
 -- ---- 10: resizes
 
+-- another actor of the phase has a command that takes frames
+abbrev pub is_taking : Command → Bool
+is_taking (command.Read file room) = true
+is_taking (command.RxTurn vhost) = true
+is_taking other = false
+
+pub record HasTaker (s : Setup) (w : World) (actor : ℕ) : Type 0 where
+  pub phase : Phase
+  pub is_phase : slice_get s.phases w.phase ≡ Some phase
+  pub other : ℕ
+  pub is_other : other ≢ actor
+  pub takes : list_any (λ (c : Numbered). is_taking c.command) (script_in phase other) ≡ true
+
 -- A resize has the capacity that it asks for. Its claim count isn't above that of now, and is that while more wait than
 -- the ring has places. It cuts only where that capacity is below the table's; and from some place on all entries below
--- its claim count are cut, which are at least as many as it has cut.
-pub record IsShrinking (s : Setup) (w : World) (file places cuts asked : ℕ) : Type 0 where
+-- its claim count are cut, which are at least as many as it has cut. Where it has cut and no more wait than there are
+-- places, just as many wait, but where others take frames.
+pub record IsShrinking (s : Setup) (w : World) (actor file places cuts asked : ℕ) : Type 0 where
   pub f : File
   pub is_there : at w.files file ≡ Some f
   pub capacity : f.capacity ≡ asked
   pub most : places ≤ claimed f
   pub over : is_over f ≡ true → claimed f ≡ places
   pub smaller : 0 < cuts → asked < table_capacity file (table s w)
+  pub least : 0 < cuts → is_over f ≡ false → HasTaker s w actor ⊎ (places ≡ freed f + f.capacity)
   pub from : ℕ
   pub as_many : f.first + from + cuts ≤ places
   pub cut : (i : ℕ) (e : Entry) → from ≤ i → f.first + i < places → slice_get f.line i ≡ Some e → e.stands ≡ Cut
 
 -- Each resize under way is so.
-abbrev pub HasItsCuts : Setup → World → Actor → Type 0
-HasItsCuts s w a =
+abbrev pub HasItsCuts : Setup → World → ℕ → Actor → Type 0
+HasItsCuts s w actor a =
     (n other asked file places cuts : ℕ)
     → current a.script ≡ Some (record { number = n; command = command.Resize other asked })
-    → a.doing ≡ Shrinks file places cuts → IsShrinking s w file places cuts asked
+    → a.doing ≡ Shrinks file places cuts → IsShrinking s w actor file places cuts asked
 
--- ---- all ten
+-- ---- 11: detaches
+
+-- A detach whose gate is shut and whose file is empty has ended: it ends with the event that emptied the file.
+
+-- ---- all eleven
 
 pub record IsSteady (s : Setup) (w : World) : Type 0 where
   pub there : IsThere s w
@@ -350,4 +410,5 @@ pub record IsSteady (s : Setup) (w : World) : Type 0 where
   pub seen : EachActor w (λ actor a. HasFound s w a)
   pub told : IsTold s w
   pub ops : AreOperations s w
-  pub sized : EachActor w (λ actor a. HasItsCuts s w a)
+  pub sized : EachActor w (HasItsCuts s w)
+  pub ended : ending w ≡ None

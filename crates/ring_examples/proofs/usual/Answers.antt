@@ -12,13 +12,13 @@ use Rattle.vring_drive.specs.Harvests.{harvest_of, used_entry}
 use Rattle.ring_examples.proofs.usual.Goals as goal
 
 pub returns-clause-addresses : goal.returns-clause-addresses
-unfolding ones gaps first_bad is_there look bytes_at bytes_from with_bytes with_field field_at q.with_field q.field_at q.published_in q.with_entries q.wants_notice offered linked filled desc_bytes desc_of harvest_of used_entry used_elem_of used_elem_bytes desc_at avail_idx avail_head path_end path_from fetched
+unfolding ones gaps first_bad is_there look bytes_at bytes_from with_bytes with_field field_at q.published_in q.with_entries q.wants_notice offered linked filled desc_bytes desc_of harvest_of used_entry used_elem_of used_elem_bytes desc_at avail_idx avail_head path_end path_from fetched
 returns-clause-addresses c = (refl, refl, refl)
 
 pub returns-clause-found : goal.returns-clause-found
-unfolding ones gaps first_bad is_there look bytes_at bytes_from with_bytes with_field field_at q.with_field q.field_at q.published_in q.with_entries q.wants_notice offered linked filled desc_bytes desc_of harvest_of used_entry used_elem_of used_elem_bytes desc_at avail_idx avail_head path_end path_from fetched
+unfolding ones gaps first_bad is_there look bytes_at bytes_from with_bytes with_field field_at q.published_in q.with_entries q.wants_notice offered linked filled desc_bytes desc_of harvest_of used_entry used_elem_of used_elem_bytes desc_at avail_idx avail_head path_end path_from fetched
 returns-clause-found c = (refl, refl, refl, refl)
 
 pub returns-clause-harvested : goal.returns-clause-harvested
-unfolding ones gaps first_bad is_there look bytes_at bytes_from with_bytes with_field field_at q.with_field q.field_at q.published_in q.with_entries q.wants_notice offered linked filled desc_bytes desc_of harvest_of used_entry used_elem_of used_elem_bytes desc_at avail_idx avail_head path_end path_from fetched
+unfolding ones gaps first_bad is_there look bytes_at bytes_from with_bytes with_field field_at q.published_in q.with_entries q.wants_notice offered linked filled desc_bytes desc_of harvest_of used_entry used_elem_of used_elem_bytes desc_at avail_idx avail_head path_end path_from fetched
 returns-clause-harvested c = (refl, refl, refl, refl)

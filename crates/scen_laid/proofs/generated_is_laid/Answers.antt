@@ -1,6 +1,6 @@
 use Rattle.scen_gen.specs.Generated.{generated}
 use Rattle.scen_laid.proofs.Generated.{generated_is, generated_is_laid}
-use Rattle.scen_laid.proofs.Texts.{Laws, text_stands}
+use Rattle.scen_laid.proofs.Texts.{text_stands}
 use Rattle.scen_laid.proofs.generated_is_laid.Goals as goal
 
 pub returns-clause-text : goal.returns-clause-text
