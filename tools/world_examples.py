@@ -127,7 +127,7 @@ def unfoldables():
     uses, names = list(KIT[0]), list(KIT[1])
     for crate in CRATES:
         for path in sorted(glob.glob(f"{REPOSITORY}/crates/{crate}/specs/*.antt")):
-            found = re.findall(r"^unfoldable pub ([^ ]+) ", open(path).read(), re.M)
+            found = re.findall(r"^unfoldable pub (?!use )([^ ]+) ", open(path).read(), re.M)
             if found:
                 word = f"u{len(uses)}"
                 uses.append(f"use Rattle.{crate}.specs.{os.path.basename(path)[:-5]} as {word}")
