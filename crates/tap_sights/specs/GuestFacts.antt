@@ -97,9 +97,11 @@ pub record GuestTells (c : Case) (s : Seen) (guest : ℕ) (regions : List Region
   pub once : Ordered IsNotAfterAnswer done
   pub learnings : (a : AnswerAt) (vhost : ℕ) → In a c.answers → a.asked ≡ Some (command.TxTurn vhost)
       → at c.setup.vhosts vhost ≡ Some guest
-      → (file : ℕ) × IfSome (served_by c a.told.command) (λ f. f ≡ file) × TurnLearns c s a file (flows_by a.told.command done)
+      → (file : ℕ) × IfSome (served_by c a.told.command) (λ f. f ≡ file)
+      × TurnLearns c s a file (flows_by a.told.command done)
   pub rings : (n : ℕ) (v : Vhost) (p : RingPart) → at (last_state (first_state c guest regions) done).vhosts n ≡ Some v
-      → In p (ring_parts (n, v)) → (r : RingAt) × In r c.rings × (r.vhost ≡ p.vhost) × (r.ring ≡ p.ring) × (r.lists ≡ p.lists)
+      → In p (ring_parts (n, v))
+      → (r : RingAt) × In r c.rings × (r.vhost ≡ p.vhost) × (r.ring ≡ p.ring) × (r.lists ≡ p.lists)
 
 -- a step stands between the sights of its command
 pub record StepIsSeen (c : Case) (s : Seen) (guest i : ℕ) (x : StepAt) : Type 0 where

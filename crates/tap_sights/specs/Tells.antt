@@ -220,7 +220,8 @@ pub record IsSized (c : Case) (s : Seen) (a : AnswerAt) (file capacity version c
   pub low : ℕ
   pub above : (e : EntryAt) → In e c.entries → e.file ≡ file → low ≤ e.at.place → e.at.place < claimed
       → IsCutBy c s version e
-  pub its : (e : EntryAt) → In e c.entries → e.file ≡ file → is_cut_of s a.told e ≡ true → (low ≤ e.at.place) × (e.at.place < claimed)
+  pub its : (e : EntryAt) → In e c.entries → e.file ≡ file → is_cut_of s a.told e ≡ true
+      → (low ≤ e.at.place) × (e.at.place < claimed)
   pub count : cut_count c s a.told file ≡ cut
 
 abbrev pub TellsResize : Case → Seen → AnswerAt → ℕ → ℕ → Answer → Type 0

@@ -8,8 +8,6 @@ use Rattle.tap_frame.specs.declared.name.Name.{Name}
 use Rattle.tap_frame.specs.declared.reading.BadFrame.{BadFrame}
 use Rattle.tap_ledger.specs.declared.fate.Cause.TheVariants as cause
 use Rattle.tap_ledger.specs.declared.error.TapErr.{TapErr}
-use Rattle.tap_steer.specs.declared.files.Attachment.{Attachment}
-use Rattle.tap_steer.specs.declared.files.Attachment.TheVariants.{Enabled}
 use Rattle.tap_steer.specs.declared.operation.Op.{Op}
 use Rattle.tap_steer.specs.declared.operation.Op.TheVariants as op
 use Rattle.tap_steer.specs.declared.operation.TheConstants.{IFF_ATTACH_QUEUE}
@@ -32,13 +30,9 @@ use Rattle.tap_world.specs.World.{Actor, Doing, World, holds_writer, name_of, ne
 use Rattle.tap_world.specs.World.Doing.{Changes, Hosts, Learns, Opened, Opens, Reads, Resizes, Routed, Shrinks, Withdrawn, Withdraws}
 use Rattle.tap_world.specs.Effect.{Effect, Onward, only}
 use Rattle.tap_world.specs.Effect.Onward.{Ends, Goes}
+pub use Rattle.tap_steer.specs.Table.{is_enabled}
 
 -- ---- Look, of a control command: the writer is free
-
--- whether a file's queue is enabled
-abbrev pub is_enabled : Attachment → Bool
-is_enabled (Enabled device) = true
-is_enabled other = false
 
 -- how a lawful control command goes on: an attach, a detach, a resize, or a change of the table alone
 abbrev pub course : Table → Op → Doing
