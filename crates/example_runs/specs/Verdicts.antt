@@ -12,9 +12,9 @@ use Rattle.tap_trace.specs.declared.trace.AnswerLine.{AnswerLine}
 use Rattle.tap_trace.specs.declared.trace.StepLine.{StepLine}
 use Rattle.tap_trace.specs.declared.trace.Trace.{Trace}
 use Rattle.tap_trace.specs.declared.turn.TurnText.TheVariants as turn
-use Rattle.legal_examples.specs.Change.{change_at, one_place_up, with_answer, with_answers, with_entries, with_fate, with_kind, with_seen, with_steps}
-use Rattle.legal_examples.specs.Play.{judged}
-use Rattle.legal_examples.specs.Texts.{alike, guests, later, no_ring, one_place, poked, short, workers}
+use Rattle.example_runs.specs.Change.{change_at, one_place_up, with_answer, with_answers, with_entries, with_fate, with_kind, with_seen, with_steps}
+use Rattle.example_runs.specs.Play.{judged}
+use Rattle.example_runs.specs.Texts.{alike, guests, later, no_ring, one_place, poked, short, workers}
 
 abbrev pub as_it_is : Trace → Trace
 as_it_is t = t

@@ -4,7 +4,7 @@ use Rattle.vring_split.specs.Split.{desc_bytes, used_elem_of, used_elem_bytes}
 use Rattle.vring_drive.specs.Area.{with_field, field_at}
 use Rattle.vring_drive.specs.Posts.{offered, linked}
 use Rattle.vring_drive.specs.Harvests.{harvest_of, used_entry}
-use Rattle.ring_examples.proofs.driving.Goals as goal
+use Rattle.example_rings.proofs.driving.Goals as goal
 
 pub returns-clause-areas : goal.returns-clause-areas
 unfolding gaps first_bad bytes_from with_bytes with_field field_at offered linked desc_bytes harvest_of used_entry used_elem_of used_elem_bytes

@@ -1,6 +1,6 @@
 use Rattle.std.proofs.Common.{refl}
-use Rattle.legal_examples.proofs.All.{all}
-use Rattle.legal_examples.proofs.runs_are_as_written.Goals as goal
+use Rattle.example_runs.proofs.All.{all}
+use Rattle.example_runs.proofs.runs_are_as_written.Goals as goal
 
 pub returns : goal.returns
 unfolding all

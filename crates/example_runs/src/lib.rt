@@ -5,9 +5,9 @@
 //! whose traces a sentence each fails. Definitions alone.
 #![tactic(auto)]
 
-ghost use Rattle.legal_examples.specs.Runs.{RunsAreAsWritten};
-ghost use Rattle.legal_examples.specs.Small.{SmallChangesAreIllegal, SmallRunsAreLegal};
-ghost use Rattle.legal_examples.specs.Verdicts.{ChangesAreIllegal, RunsAreLegal};
+ghost use Rattle.example_runs.specs.Runs.{RunsAreAsWritten};
+ghost use Rattle.example_runs.specs.Small.{SmallChangesAreIllegal, SmallRunsAreLegal};
+ghost use Rattle.example_runs.specs.Verdicts.{ChangesAreIllegal, RunsAreLegal};
 
 /// The runs of these scenarios give these traces, byte for byte.
 pub fn runs_are_as_written()

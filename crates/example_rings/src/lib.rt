@@ -2,9 +2,9 @@
 //! compute them.
 #![tactic(auto)]
 
-ghost use Rattle.ring_examples.specs.Driving.{AreasAreLookedAt, PostsAreLookedAt, LowestFirst, PostIsWritten, StrayEnds};
-ghost use Rattle.ring_examples.specs.Serving.{NoticesWrap, TwoChains, OneChainIsRewound, ThreeHundred};
-ghost use Rattle.ring_examples.specs.Usual.{AddressesAgree, FrameIsFound, Harvested};
+ghost use Rattle.example_rings.specs.Driving.{AreasAreLookedAt, PostsAreLookedAt, LowestFirst, PostIsWritten, StrayEnds};
+ghost use Rattle.example_rings.specs.Serving.{NoticesWrap, TwoChains, OneChainIsRewound, ThreeHundred};
+ghost use Rattle.example_rings.specs.Usual.{AddressesAgree, FrameIsFound, Harvested};
 
 /// A driver with four descriptors meets each of its answers.
 pub fn driving()

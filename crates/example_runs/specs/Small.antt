@@ -15,10 +15,10 @@ use Rattle.tap_trace.specs.declared.trace.OpText.{OpText}
 use Rattle.tap_trace.specs.declared.trace.OpText.TheVariants as text
 use Rattle.tap_trace.specs.declared.trace.PlaceLine.{PlaceLine}
 use Rattle.tap_trace.specs.declared.trace.StepLine.{StepLine}
-use Rattle.legal_examples.specs.Change.{change_at, with_answer, with_answers, with_entries, with_fate, with_file, with_line, with_ops, with_more, with_seen, with_steps, without}
-use Rattle.legal_examples.specs.Play.{judged, judged_by}
-use Rattle.legal_examples.specs.Texts.{alike, moved, poked}
-use Rattle.legal_examples.specs.Verdicts.{Change, as_it_is, sent}
+use Rattle.example_runs.specs.Change.{change_at, with_answer, with_answers, with_entries, with_fate, with_file, with_line, with_ops, with_more, with_seen, with_steps, without}
+use Rattle.example_runs.specs.Play.{judged, judged_by}
+use Rattle.example_runs.specs.Texts.{alike, moved, poked}
+use Rattle.example_runs.specs.Verdicts.{Change, as_it_is, sent}
 
 -- ---- scenarios, whose traces are short enough to be counted by hand
 

@@ -9,7 +9,7 @@ use Rattle.vhost_queue.specs.Publication as q
 use Rattle.vring_drive.specs.Area.{with_field, field_at}
 use Rattle.vring_drive.specs.Posts.{offered, linked, filled}
 use Rattle.vring_drive.specs.Harvests.{harvest_of, used_entry}
-use Rattle.ring_examples.proofs.usual.Goals as goal
+use Rattle.example_rings.proofs.usual.Goals as goal
 
 pub returns-clause-addresses : goal.returns-clause-addresses
 unfolding ones gaps first_bad is_there look bytes_at bytes_from with_bytes with_field field_at q.published_in q.with_entries q.wants_notice offered linked filled desc_bytes desc_of harvest_of used_entry used_elem_of used_elem_bytes desc_at avail_idx avail_head path_end path_from fetched

@@ -2,7 +2,7 @@ use Rattle.std.proofs.Common.{refl}
 use Rattle.guest_mem.specs.Memory.{bytes_from, with_bytes}
 use Rattle.vring_split.specs.Split.{used_elem_bytes}
 use Rattle.vhost_queue.specs.Publication.{published_in, with_field, field_at, with_entries, wants_notice, noticed_at}
-use Rattle.ring_examples.proofs.serving.Goals as goal
+use Rattle.example_rings.proofs.serving.Goals as goal
 
 pub returns-clause-notices : goal.returns-clause-notices
 unfolding published_in with_field field_at with_bytes bytes_from with_entries used_elem_bytes wants_notice noticed_at

@@ -1,6 +1,6 @@
 use Rattle.std.proofs.Common.{refl}
-use Rattle.legal_examples.proofs.All.{all}
-use Rattle.legal_examples.proofs.verdicts_are_as_said.Goals as goal
+use Rattle.example_runs.proofs.All.{all}
+use Rattle.example_runs.proofs.verdicts_are_as_said.Goals as goal
 
 pub returns-clause-legal : goal.returns-clause-legal
 unfolding all

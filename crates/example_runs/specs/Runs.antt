@@ -1,7 +1,7 @@
 -- This project's own: the traces of runs, byte for byte.
 use Rattle.std.specs.Prelude.{◌≡◌, Some}
-use Rattle.legal_examples.specs.Play.{output}
-use Rattle.legal_examples.specs.Texts.{alike, alike_trace, guests, guests_trace, later, later_trace, no_ring, no_ring_trace, one_place, one_place_trace, poked, poked_trace, short, short_trace, workers, workers_trace}
+use Rattle.example_runs.specs.Play.{output}
+use Rattle.example_runs.specs.Texts.{alike, alike_trace, guests, guests_trace, later, later_trace, no_ring, no_ring_trace, one_place, one_place_trace, poked, poked_trace, short, short_trace, workers, workers_trace}
 
 abbrev pub RunsAreAsWritten : Type 0
 RunsAreAsWritten =
