@@ -1,0 +1,3 @@
+mod Receiving
+mod Transmitting
+mod Giving

@@ -1,0 +1,4 @@
+pub mod Queues
+pub mod Told
+pub mod Receive
+pub mod Transmit
