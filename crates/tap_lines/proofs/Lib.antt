@@ -1,0 +1,11 @@
+mod Kit
+mod Places
+mod Parted
+mod Index
+mod Beside
+mod Fronts
+mod Filling
+mod Changed
+mod Numbers
+mod Numbered
+mod Following
