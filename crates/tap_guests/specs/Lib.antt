@@ -1,0 +1,11 @@
+pub mod Side
+pub mod Within
+pub mod Kept
+pub mod Calls
+pub mod Backs
+pub mod Lending
+pub mod Words
+pub mod Steps
+pub mod Drivers
+pub mod Turning
+pub mod Laws
