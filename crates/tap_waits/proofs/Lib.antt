@@ -1,0 +1,17 @@
+mod Kit
+mod NextFacts
+mod NextLines
+mod NextControl
+mod NextRing
+mod NextWords
+mod NextBack
+mod NextBegun
+mod NextTurns
+mod NextTakes
+mod NextReceives
+mod NextTransmits
+mod NextEach
+mod NextChosen
+mod StandstillLines
+mod Standstill
+mod Going

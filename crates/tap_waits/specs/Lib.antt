@@ -1,0 +1,4 @@
+pub mod Next
+pub mod NextChoices
+pub mod Standstill
+pub mod Going
