@@ -151,6 +151,7 @@ declaration_after e w v = declaration_of (number_for (names_of e) (declared_name
 
 pub record Declared (e : List Sentence) (w : DeclarationWord) (v : List Value) : Type 0 where
   pub started : is_started e ≡ false
+  pub new : is_twice (declarations_of e) (declaration_after e w v) ≡ false
   pub guest : lacks_guest (declarations_of e) (declaration_after e w v) ≡ false
   pub region : region_why (declarations_of e) (declaration_after e w v) ≡ None
   pub program : program_why (declaration_after e w v) ≡ None
@@ -164,7 +165,7 @@ was_declared e last w v h =
     let c = when_none (lacks_guest (declarations_of e) (declaration_after e w v)) why.Unknown _ b.1 in
     let d = else_none (region_why (declarations_of e) (declaration_after e w v)) _ c.1 in
     let f = else_none (program_why (declaration_after e w v)) _ d.1 in
-    record { started = a.0; guest = c.0; region = d.0; program = f.0; names = when_last _ why.Limit f.1 }
+    record { started = a.0; new = b.0; guest = c.0; region = d.0; program = f.0; names = when_last _ why.Limit f.1 }
 
 pub record Ordered (e : List Sentence) (a : Option ℕ) (w : CommandWord) (v : List Value) : Type 0 where
   pub known : is_unknown (declarations_of e) (command_after e w v) ≡ false

@@ -1,6 +1,7 @@
 mod Histories
 mod Placed
 mod Ranges
+mod Programs
 mod Setups
 mod Naming
 mod Ordered

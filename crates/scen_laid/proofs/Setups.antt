@@ -17,7 +17,7 @@ use Rattle.scen_words.specs.declared.sentence.Sentence.{Sentence}
 use Rattle.scen_words.specs.declared.sentence.Sentence.TheVariants.{Skipped, Declares, Orders, Opens, Ends}
 use Rattle.scen_text.specs.declared.scenario.Scenario.{Scenario}
 use Rattle.scen_text.specs.Before.{declarations_of}
-use Rattle.scen_text.specs.Refusals.{is_file, is_guest, is_program, is_vhost, lacks_guest, piece_of, program_why, region_why, regions_of}
+use Rattle.scen_text.specs.Refusals.{is_file, is_guest, is_program, is_twice, is_vhost, lacks_guest, piece_of, program_why, region_why, regions_of}
 use Rattle.tap_steer.specs.Named.{AreLimits}
 use Rattle.tap_world.specs.ByNumber.{at, put_at}
 use Rattle.tap_world.specs.Setup.{Declared, Setup, nothing_of, place_among, with_declaration}
@@ -26,6 +26,7 @@ use Rattle.tap_sound.specs.SoundRuns.{HasGuests}
 use Rattle.scen_laid.specs.Declared.{AreFew, HasCapacities, HasFlows, HasMemories, HasPrograms, IsInRange}
 use Rattle.scen_laid.proofs.Histories.{Accepted, declaration_after, was_declared}
 use Rattle.scen_laid.proofs.Placed.{all_more, at_put, each_put, few_put, kept_put}
+use Rattle.scen_laid.proofs.Programs.{AreNumberedOnce, few_numbered, none_numbered, numbered_more}
 use Rattle.scen_laid.proofs.Ranges.{in_range}
 
 -- ---- what is declared is there, and nothing else
@@ -166,6 +167,7 @@ pub record Good (s : Setup) : Type 0 where
   pub guests : HasGuests s
   pub memories : HasMemories s
   pub programs : HasPrograms s
+  pub numbered : AreNumberedOnce s.programs
   pub flows : HasFlows s
   pub few : AreFew s
 
@@ -176,11 +178,13 @@ file_more s file capacity first h r = record {
   guests = h.guests;
   memories = h.memories;
   programs = h.programs;
+  numbered = h.numbered;
   flows = record { names = h.flows.names; limits = h.flows.limits };
   few = record {
     files = let few = r.0 in few_put file 320 (record { capacity = capacity; first = first }) s.files (omega arith) h.few.files;
     guests = h.few.guests;
     vhosts = h.few.vhosts;
+    programs = h.few.programs;
   };
 }
 
@@ -199,8 +203,9 @@ region_more ds s guest addr len m h r fine =
       guests = λ vhost other e. kept_put guest other (grown s.guests guest addr len) s.guests (h.guests vhost other e);
       memories = each_put (λ (rs : List Piece). refusal rs ≡ None) guest (grown s.guests guest addr len) s.guests new h.memories;
       programs = h.programs;
+      numbered = h.numbered;
       flows = record { names = h.flows.names; limits = h.flows.limits };
-      few = record { files = h.few.files; guests = few_put guest 8 (grown s.guests guest addr len) s.guests (omega (arith, r)) h.few.guests; vhosts = h.few.vhosts };
+      few = record { files = h.few.files; guests = few_put guest 8 (grown s.guests guest addr len) s.guests (omega (arith, r)) h.few.guests; vhosts = h.few.vhosts; programs = h.few.programs };
     }
 
 -- a guest that is declared has regions
@@ -232,24 +237,29 @@ vhost_more ds s vhost guest m h r fine =
       guests = each_put (λ (g : ℕ). is_some (at s.guests g) ≡ true) vhost guest s.vhosts new h.guests;
       memories = h.memories;
       programs = h.programs;
+      numbered = h.numbered;
       flows = record { names = h.flows.names; limits = h.flows.limits };
-      few = record { files = h.few.files; guests = h.few.guests; vhosts = let few = r.0 in few_put vhost 64 guest s.vhosts (omega arith) h.few.vhosts };
+      few = record { files = h.few.files; guests = h.few.guests; vhosts = let few = r.0 in few_put vhost 64 guest s.vhosts (omega arith) h.few.vhosts; programs = h.few.programs };
     }
 
 fault_none : {A : Type 0} (o : Option A) (f : A → Why) → option_map f o ≡ None → o ≡ None
 fault_none None f e = refl
 fault_none (Some x) f e = absurd (cc (e))
 
-program_more : (s : Setup) (program : ℕ) (code : List ℕ) → Good s → program_why (declares.Prog program code) ≡ None → Good (with_declaration s (declares.Prog program code))
-program_more s program code h fine = record {
-  places = h.places;
-  capacities = h.capacities;
-  guests = h.guests;
-  memories = h.memories;
-  programs = all_more (λ (p : ℕ × List ℕ). first_fault p.1 ≡ None) s.programs (program, code) h.programs (fault_none (first_fault code) why.Program fine);
-  flows = record { names = h.flows.names; limits = h.flows.limits };
-  few = record { files = h.few.files; guests = h.few.guests; vhosts = h.few.vhosts };
-}
+program_more : (ds : List Declaration) (s : Setup) (program : ℕ) (code : List ℕ) → Matches ds s → Good s → IsInRange (declares.Prog program code) → is_twice ds (declares.Prog program code) ≡ false → program_why (declares.Prog program code) ≡ None
+    → Good (with_declaration s (declares.Prog program code))
+program_more ds s program code m h r new fine =
+    let numbered : AreNumberedOnce (s.programs ++ (program, code) ∷ []) = numbered_more s.programs program code h.numbered r (m.programs program ∙ new) in
+    record {
+      places = h.places;
+      capacities = h.capacities;
+      guests = h.guests;
+      memories = h.memories;
+      programs = all_more (λ (p : ℕ × List ℕ). first_fault p.1 ≡ None) s.programs (program, code) h.programs (fault_none (first_fault code) why.Program fine);
+      numbered = numbered;
+      flows = record { names = h.flows.names; limits = h.flows.limits };
+      few = record { files = h.few.files; guests = h.few.guests; vhosts = h.few.vhosts; programs = few_numbered (s.programs ++ (program, code) ∷ []) numbered };
+    }
 
 flows_more : (s : Setup) (name limit age : ℕ) → Good s → IsInRange (declares.Flows name limit age) → Good (with_declaration s (declares.Flows name limit age))
 flows_more s name limit age h r = record {
@@ -258,16 +268,17 @@ flows_more s name limit age h r = record {
   guests = h.guests;
   memories = h.memories;
   programs = h.programs;
+  numbered = h.numbered;
   flows = record { names = length-set s.flows name (limit, age) ∙ h.flows.names; limits = All-set AreLimits s.flows name (limit, age) r h.flows.limits };
-  few = record { files = h.few.files; guests = h.few.guests; vhosts = h.few.vhosts };
+  few = record { files = h.few.files; guests = h.few.guests; vhosts = h.few.vhosts; programs = h.few.programs };
 }
 
-good_more : (ds : List Declaration) (d : Declaration) (s : Setup) → Matches ds s → Good s → IsInRange d → lacks_guest ds d ≡ false → region_why ds d ≡ None → program_why d ≡ None → Good (with_declaration s d)
-good_more ds (declares.File file capacity first) s m h r guest region program = file_more s file capacity first h r
-good_more ds (declares.Region n addr len) s m h r guest region program = region_more ds s n addr len m h r region
-good_more ds (declares.Vhost vhost n) s m h r guest region program = vhost_more ds s vhost n m h r guest
-good_more ds (declares.Prog n code) s m h r guest region program = program_more s n code h program
-good_more ds (declares.Flows name limit age) s m h r guest region program = flows_more s name limit age h r
+good_more : (ds : List Declaration) (d : Declaration) (s : Setup) → Matches ds s → Good s → IsInRange d → is_twice ds d ≡ false → lacks_guest ds d ≡ false → region_why ds d ≡ None → program_why d ≡ None → Good (with_declaration s d)
+good_more ds (declares.File file capacity first) s m h r new guest region program = file_more s file capacity first h r
+good_more ds (declares.Region n addr len) s m h r new guest region program = region_more ds s n addr len m h r region
+good_more ds (declares.Vhost vhost n) s m h r new guest region program = vhost_more ds s vhost n m h r guest
+good_more ds (declares.Prog n code) s m h r new guest region program = program_more ds s n code m h r new program
+good_more ds (declares.Flows name limit age) s m h r new guest region program = flows_more s name limit age h r
 
 -- ---- all declarations
 
@@ -294,19 +305,20 @@ nothing_laid s = record {
     guests = λ vhost guest e. absurd (cc (e));
     memories = λ guest rs e. absurd (cc (e));
     programs = tt;
+    numbered = none_numbered;
     flows = record { names = refl; limits = All-replicate AreLimits 64 (4096, 3000) usual };
-    few = record { files = omega arith; guests = omega arith; vhosts = omega arith };
+    few = record { files = omega arith; guests = omega arith; vhosts = omega arith; programs = omega arith };
   };
 }
 
-lays_more : (s : Scenario) (e : List Sentence) (d : Declaration) (t : Setup) (ds : List Declaration) → AllByRecursion IsInRange ds → Matches ds t → Good t → IsInRange d → lacks_guest ds d ≡ false → region_why ds d ≡ None → program_why d ≡ None
+lays_more : (s : Scenario) (e : List Sentence) (d : Declaration) (t : Setup) (ds : List Declaration) → AllByRecursion IsInRange ds → Matches ds t → Good t → IsInRange d → is_twice ds d ≡ false → lacks_guest ds d ≡ false → region_why ds d ≡ None → program_why d ≡ None
     → t ≡ fold with_declaration (nothing_of s) ds
     → AllByRecursion IsInRange (ds ++ d ∷ []) × Matches (ds ++ d ∷ []) (fold with_declaration (nothing_of s) (ds ++ d ∷ [])) × Good (fold with_declaration (nothing_of s) (ds ++ d ∷ []))
-lays_more s e d t ds ranges m h r guest region program is =
+lays_more s e d t ds ranges m h r new guest region program is =
     let step : with_declaration t d ≡ fold with_declaration (nothing_of s) (ds ++ d ∷ []) = ap (λ (x : Setup). with_declaration x d) is ∙ sym (fold-append with_declaration (nothing_of s) ds (d ∷ [])) in (
       all_more IsInRange ds d ranges r,
       subst (λ (x : Setup). Matches (ds ++ d ∷ []) x) step (matches_more ds d t m),
-      subst (λ (x : Setup). Good x) step (good_more ds d t m h r guest region program),
+      subst (λ (x : Setup). Good x) step (good_more ds d t m h r new guest region program),
     )
 
 pub lays : (s : Scenario) (version : ℕ) (e : List Sentence) → Accepted version e → Lays s e
@@ -316,7 +328,7 @@ lays s version (Skipped ∷ e) h = let l = lays s version e h.1 in record { rang
 lays s version (Declares w v ∷ e) h =
     let l = lays s version e h.1 in
     let t = was_declared e h.0.last w v h.0.fine in
-    let m = lays_more s e (declaration_after e w v) (laid_down s e) (declarations_of e) l.ranges l.is l.good (in_range _ w v h.0.fits.1) t.guest t.region t.program refl in
+    let m = lays_more s e (declaration_after e w v) (laid_down s e) (declarations_of e) l.ranges l.is l.good (in_range _ w v h.0.fits.1) t.new t.guest t.region t.program refl in
     record { ranges = m.0; is = m.1; good = m.2 }
 lays s version (Orders a w v ∷ e) h = let l = lays s version e h.1 in record { ranges = l.ranges; is = l.is; good = l.good }
 lays s version (Opens n ∷ e) h = let l = lays s version e h.1 in record { ranges = l.ranges; is = l.is; good = l.good }

@@ -42,8 +42,9 @@ pub record HasFlows (s : Setup) : Type 0 where
   pub names : length s.flows ≡ MAX_NAMES
   pub limits : All AreLimits s.flows
 
--- numbers of files, guests and vhosts are below these
+-- numbers of files, guests and vhosts are below these, and there are at most 64 programs
 pub record AreFew (s : Setup) : Type 0 where
   pub files : length s.files ≤ 320
   pub guests : length s.guests ≤ 8
   pub vhosts : length s.vhosts ≤ 64
+  pub programs : length s.programs ≤ 64
