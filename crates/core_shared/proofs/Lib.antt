@@ -1,1 +1,4 @@
 mod Numbered
+pub mod Kit
+pub mod Taking
+pub mod Leaving
