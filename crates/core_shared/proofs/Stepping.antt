@@ -1,15 +1,14 @@
 -- This project's own: an event that was done is a step of the world.
-use Rattle.std.proofs.Common.{◌≡◌, ℕ, List, ◌∷◌, ◌++◌, Bool, true, false, Option, Some, None, refl, sym, ap, ◌∙◌, eq-eqb}
+use Rattle.std.proofs.Common.{◌≡◌, ℕ, List, ◌++◌, Bool, true, Option, Some, None, refl, sym, ap, ◌∙◌, eq-eqb}
 use Rattle.std.specs.Prelude.{if◌then◌else◌, ◌==◌, ◌&&◌, map, slice_get}
 use Rattle.tap_ground.specs.Options.{◌>>=◌, only_if}
 use Rattle.tap_lines.specs.Files.{files_of}
 use Rattle.tap_world.specs.declared.event.Event.{Event}
 use Rattle.tap_world.specs.declared.event.EventKind.{EventKind}
 use Rattle.tap_world.specs.declared.event.Heard.{Heard}
-use Rattle.tap_world.specs.declared.told.Published.{Published}
 use Rattle.tap_world.specs.declared.told.Said.{Said}
 use Rattle.tap_world.specs.ByNumber.{with_nth}
-use Rattle.tap_world.specs.Effect.{Effect, Ending, Onward as Onto, actor_after, ending, files_after, guests_after, heard_by, said_after, settled, vhosts_after, with_effect}
+use Rattle.tap_world.specs.Effect.{Effect, Ending, Onward as Onto, actor_after, ending, guests_after, heard_by, said_after, settled, vhosts_after, with_effect}
 use Rattle.tap_world.specs.Effect.Onward.{Ends, Goes, Stays}
 use Rattle.tap_world.specs.Guests.{Guest}
 use Rattle.tap_world.specs.Line.{File}
@@ -22,7 +21,7 @@ use Rattle.tap_world.specs.World.{Actor, World, current}
 use Rattle.tap_sound.proofs.Kit.{only_some, then_some}
 use Rattle.core_shared.specs.Asking.{Asking, setup}
 use Rattle.core_shared.specs.Coming.{come_of, onward_of, written_out}
-use Rattle.core_shared.specs.Did.{Did, IsLeft}
+use Rattle.core_shared.specs.Did.{IsLeft}
 use Rattle.core_shared.specs.MayDo.{actor_at}
 use Rattle.core_shared.specs.Steps.{EventsMakeSteps, event_of, world_on}
 use Rattle.core_shared.specs.Worlds.{vhosts_of, world_in}
