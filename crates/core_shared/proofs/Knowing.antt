@@ -1,13 +1,11 @@
 -- This project's own: what is known of a command whose next event may be done: which event that is, how far the command
 -- can have come, what it found, and how its turn stands.
-use Rattle.std.proofs.Common.{◌≡◌, ℕ, zero, suc, ◌<◌, ◌≤◌, List, [], ◌∷◌, length, map, Bool, true, false, Option, Some, None, refl, sym, ap, ◌∙◌, subst, true≢false, arith}
-use Rattle.std.specs.Prelude.{◌==◌, IsSome, is_some, slice_get, take}
+use Rattle.std.proofs.Common.{◌≡◌, ℕ, zero, suc, ◌≤◌, List, [], ◌∷◌, length, map, true, false, Option, Some, None, refl, sym, ap, ◌∙◌, subst, arith}
+use Rattle.std.specs.Prelude.{take}
 use Rattle.std.specs.Option.{option_map_or}
 use Rattle.std.specs.List.{AllByRecursion}
-use Rattle.tap_ground.specs.Options.{◌>>=◌}
 use Rattle.tap_guests.specs.Laws.{HoldsNone}
 use Rattle.tap_guests.specs.Side.{Side}
-use Rattle.tap_lines.specs.Files.{files_of}
 use Rattle.tap_lines.specs.Placed.{Placed}
 use Rattle.scen_words.specs.declared.command.Command.{Command}
 use Rattle.scen_words.specs.declared.command.Command.TheVariants as command
@@ -15,32 +13,29 @@ use Rattle.tap_steer.specs.Table.{Table}
 use Rattle.tap_trace.specs.declared.turn.ChainText.{ChainText}
 use Rattle.tap_steer.specs.After.{after_all}
 use Rattle.tap_world.specs.declared.event.EventKind.{EventKind}
-use Rattle.tap_world.specs.declared.line.Entry.{Entry}
 use Rattle.tap_world.specs.declared.told.Published.{Published}
 use Rattle.tap_world.specs.declared.told.Said.{Said}
 use Rattle.tap_world.specs.ByNumber.{at}
 use Rattle.tap_world.specs.Effect.{Effect}
 use Rattle.tap_world.specs.Line.{File}
 use Rattle.tap_world.specs.Scripts.{next_kind, on}
-use Rattle.tap_world.specs.Setup.{Numbered, Setup, opening_table}
+use Rattle.tap_world.specs.Setup.{opening_table}
 use Rattle.tap_world.specs.Sound.{HasRoom, holds, table_capacity}
 use Rattle.tap_world.specs.SoundActors.{can_be}
 use Rattle.tap_world.specs.SoundRings.{holds_turn}
 use Rattle.tap_world.specs.Steady.{FoundIn, HasFound, IsAtTurn, IsClaimed, IsReceiving, IsSending, WasSent}
-use Rattle.tap_world.specs.Step.{row}
 use Rattle.tap_world.specs.World as come
 use Rattle.tap_world.specs.World.{Actor, World, name_of, newest, table, table_at}
 use Rattle.tap_sound.proofs.Kit.{some_same}
 use Rattle.vring_turns.specs.RxTurn.{RxTurn}
 use Rattle.vring_turns.specs.TxTurn.{TxTurn}
 use Rattle.core_shared.specs.Asking.{Asking, setup}
-use Rattle.core_shared.specs.Coming.{come_of, host_frame, rx_turn_in, tx_turn_in}
+use Rattle.core_shared.specs.Coming.{come_of, rx_turn_in, tx_turn_in}
 use Rattle.core_shared.specs.Did.{HasEffect}
 use Rattle.core_shared.specs.MayDo.{MayDo, MayGo, actor_at}
 use Rattle.core_shared.specs.Worlds.{world_in}
 use Rattle.core_shared.specs.declared.doing.Doing.{Doing}
 use Rattle.core_shared.specs.declared.doing.Doing.TheVariants as doing
-use Rattle.core_shared.specs.declared.doing.GivenFrame.{GivenFrame}
 use Rattle.core_shared.specs.declared.shared.Shared.{Shared}
 use Rattle.core_shared.proofs.Kit.{file_at}
 use Rattle.core_shared.proofs.Taking.{holds_no_turn}

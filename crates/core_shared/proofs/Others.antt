@@ -1,6 +1,6 @@
 -- This project's own: while another actor's event is done, a command stays as far as it has come, and what it carries
 -- stays its own.
-use Rattle.std.proofs.Common.{◌≡◌, ℕ, ◌<◌, lit<, List, Bool, true, false, Option, Some, None, refl, sym, ap, ◌∙◌, subst}
+use Rattle.std.proofs.Common.{◌≡◌, ℕ, ◌<◌, lit<, List, Bool, true, false, Option, Some, None, refl, sym, ap, ◌∙◌}
 use Rattle.std.specs.Prelude.{◌==◌, ◌&&◌, IsSome, is_some, slice_get}
 use Rattle.std.specs.Option.{option_map_or}
 use Rattle.scen_words.specs.Commands.{vhost_of}

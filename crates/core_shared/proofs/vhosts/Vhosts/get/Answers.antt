@@ -1,4 +1,4 @@
-use Rattle.std.proofs.Common.{◌∙◌, ap, sym}
+use Rattle.std.proofs.Common.{◌∙◌, ap}
 use Rattle.std.specs.Option.{option_copied}
 use Rattle.core_shared.proofs.Numbered.{got_none, got_slot}
 use Rattle.core_shared.proofs.vhosts.Vhosts.get.Goals as goal
