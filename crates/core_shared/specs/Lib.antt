@@ -1,0 +1,10 @@
+pub mod Asking
+pub mod Coming
+pub mod Worlds
+pub mod Suiting
+pub mod Held
+pub mod MayDo
+pub mod Did
+pub mod Steps
+pub mod Kept
+pub mod Lending
