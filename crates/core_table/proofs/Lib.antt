@@ -1,0 +1,4 @@
+mod Programs
+mod Named
+mod Rested
+mod Changes
