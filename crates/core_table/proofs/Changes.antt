@@ -1,6 +1,6 @@
 -- The look of a command with an operation, and the publication of that operation.
 use Rattle.std.proofs.Common.{◌≡◌, ℕ, ◌+◌, List, [], ◌∷◌, length, Bool, true, false, Option, Some, None, refl, sym, ap, ◌∙◌, subst, true≢false}
-use Rattle.std.specs.Prelude.{◌&&◌, ◌==◌, if◌then◌else◌, is_none}
+use Rattle.std.specs.Prelude.{◌&&◌, ◌==◌, if◌then◌else◌, is_none, IfOk, OnOk, Result, Ok, Err}
 use Rattle.std.specs.Option.{option_map_or}
 use Rattle.scen_words.specs.declared.command.Command.{Command}
 use Rattle.scen_words.specs.declared.command.Command.TheVariants as command
@@ -166,7 +166,7 @@ suits_if : (vhosts : List (Option Side)) (a : Asking) (b : Bool) (d e : Doing) �
 suits_if vhosts a true d e h k = h
 suits_if vhosts a false d e h k = k
 
-capacity_of_op : Op → ℕ × ℕ
+abbrev capacity_of_op : Op → ℕ × ℕ
 capacity_of_op (op.Resize file capacity) = (file, capacity)
 capacity_of_op other = (0, 0)
 
@@ -221,7 +221,7 @@ pub record IsToPublish (d : come.Doing) : Type 0 where
   pub next : (w : World) (c : Command) → next_kind w d c ≡ Some event.Publish
   pub own : (s : Setup) (w : World) (actor : ℕ) (c : Command) → publishes s w actor d c ≡ publishes_op s w actor d c
 
-if_held : World → ℕ → Table → Op → come.Doing → Option Effect
+abbrev if_held : World → ℕ → Table → Op → come.Doing → Option Effect
 if_held w actor t y d = if holds_writer w actor && is_none (refuse t y) then publishes_own w y d else None
 
 publishes_in : (a : Asking) (x : Shared) (d : come.Doing) (actors : List Actor) (said : List Said) (y : Op)
@@ -333,3 +333,44 @@ detach_published a x file y m =
     (world.Onward.Goes (length x.ops.ops + 1) (come.Doing.Withdrawn file (length x.ops.ops + 1))
     (found.Version (length x.ops.ops + 1))) _ m m.1.suits (to_detach file)
     (λ actors said. refl) refl tt
+
+-- ---- the same, as the code says it
+
+pub begun_refused : (a : Asking) (x : Shared) (y : Op) (t : Table) (r : Option TapErr) (seen : ℕ) (refusal : TapErr)
+    → MayGo a doing.Begun x → IsItsOp a y → t ≡ x.ops.table → r ≡ refuse t y → seen ≡ length x.ops.ops → r ≡ Some refusal
+    → Went a doing.Begun x x (on.Ends seen (answer.Tap refusal))
+begun_refused a x y t r seen refusal m is table_is asks sees refuses =
+    subst (λ (n : ℕ). Went a doing.Begun x x (on.Ends n (answer.Tap refusal))) (sym sees)
+    (look_refused a x y refusal m is
+    (ap (λ (u : Table). refuse u y) (sym table_is) ∙ sym asks ∙ refuses))
+
+pub begun_held : (a : Asking) (x : Shared) (y : Op) (t u : Table) (r : Option TapErr) (seen actor : ℕ) (d : Doing)
+    → MayGo a doing.Begun x → IsItsOp a y → t ≡ x.ops.table → r ≡ refuse t y → seen ≡ length x.ops.ops → r ≡ None
+    → actor ≡ a.actor → u ≡ x.ops.table → d ≡ course_of u y
+    → Went a doing.Begun x (record x { writer = Some actor }) (on.Goes seen d (found.Version seen))
+begun_held a x y t u r seen actor d m is table_is asks sees lawful_ own again goes =
+    subst (λ (n : ℕ). Went a doing.Begun x (record x { writer = Some actor }) (on.Goes n d (found.Version n))) (sym sees)
+    (subst (λ (n : ℕ). Went a doing.Begun x (record x { writer = Some n }) (on.Goes (length x.ops.ops) d (found.Version (length x.ops.ops)))) (sym own)
+    (subst (λ (e : Doing). Went a doing.Begun x (record x { writer = Some a.actor }) (on.Goes (length x.ops.ops) e (found.Version (length x.ops.ops))))
+    (sym (goes ∙ ap (λ (v : Table). course_of v y) again))
+    (look_held a x y m is (ap (λ (v : Table). refuse v y) (sym table_is) ∙ sym asks ∙ lawful_))))
+
+pub begun_named : (a : Asking) (x : Shared) (y : Op) (t : Table) → MayGo a doing.Begun x → IsItsOp a y → t ≡ x.ops.table
+    → IsNamed t y
+begun_named a x y t m is table_is = subst (λ (u : Table). IsNamed u y) (sym table_is) (op_named a x doing.Begun y m is)
+
+-- a publication that may have failed
+pub if_last : {E : Type 0} (P : Shared → Onward → Type 0) (new wanted : Shared) (how : Onward) (r : Result Onward E)
+    → IfOk r (λ (o : Onward). o ≡ how) → OnOk r (new ≡ wanted) → P wanted how → IfOk r (λ (o : Onward). P new o)
+if_last P new wanted how (Ok o) is left h =
+    subst (λ (x : Shared). P x o) (sym left) (subst (λ (q : Onward). P wanted q) (sym is) h)
+if_last P new wanted how (Err e) is left h = tt
+
+pub detach_goes : (a : Asking) (old new : Shared) (file version : ℕ) (y : Op) → MayGo a (doing.Withdraws file y) old
+    → version ≡ length old.ops.ops + 1 → new ≡ publishing a old y old.writer
+    → Went a (doing.Withdraws file y) old new (on.Goes version (doing.Withdrawn file version) (found.Version version))
+detach_goes a old new file version y m seen is =
+    subst (λ (x : Shared). Went a (doing.Withdraws file y) old x (on.Goes version (doing.Withdrawn file version) (found.Version version)))
+    (sym is)
+    (subst (λ (n : ℕ). Went a (doing.Withdraws file y) old (publishing a old y old.writer)
+    (on.Goes n (doing.Withdrawn file n) (found.Version n))) (sym seen) (detach_published a old file y m))

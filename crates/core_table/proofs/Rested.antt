@@ -46,15 +46,17 @@ effect_with ops hosts drops writer o = record {
 }
 
 -- and what it leaves
-pub record Rests (a : Asking) (ops : List Op) (hosts drops : List Name) (writer : Option ℕ) (old new : Shared) : Type 0 where
-  pub ops : new.ops.ops ≡ old.ops.ops ++ map (λ (x : Op). record { phase = old.phase; actor = a.actor; command = a.number; op = x }) ops
+pub record Rests (a : Asking) (published : List Op) (given gone : List Name) (holder : Option ℕ) (old new : Shared) : Type 0 where
+  pub ops :
+      new.ops.ops
+      ≡ old.ops.ops ++ map (λ (x : Op). record { phase = old.phase; actor = a.actor; command = a.number; op = x }) published
   pub table : BeganAt (opening_table (setup a)) new.ops
   pub files : new.files ≡ old.files
   pub guests : new.guests ≡ old.guests
   pub vhosts : new.vhosts ≡ old.vhosts
-  pub hosted : new.hosted.items ≡ old.hosted.items ++ hosts
-  pub dropped : new.dropped.items ≡ old.dropped.items ++ drops
-  pub writer : new.writer ≡ writer
+  pub hosted : new.hosted.items ≡ old.hosted.items ++ given
+  pub dropped : new.dropped.items ≡ old.dropped.items ++ gone
+  pub writer : new.writer ≡ holder
   pub phase : new.phase ≡ old.phase
 
 -- ---- what always holds still does

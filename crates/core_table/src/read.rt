@@ -26,11 +26,11 @@ pub fn begin_read(shared: &mut Shared, asked: &Asked<'_>, file: u16, room: u32) 
             answer: Answer::Tap(TapErr::EBADFD),
         };
     };
-    let least = least(shape) as u64;
-    if u64::from(room) < least {
+    let needed = least(shape) as u64;
+    if u64::from(room) < needed {
         return Onward::Ends {
             seen,
-            answer: Answer::Room { least },
+            answer: Answer::Room { least: needed },
         };
     }
     Onward::Goes {

@@ -1,0 +1,171 @@
+-- A frame that is written: the host gets it, and its flow is learnt.
+use Rattle.std.proofs.Common.{◌≡◌, ℕ, ◌+◌, List, [], ◌∷◌, ◌++◌, length, take, Bool, true, false, Option, Some, None, refl, sym, ap, ◌∙◌, subst}
+use Rattle.std.specs.Prelude.{if◌then◌else◌, is_none}
+use Rattle.scen_words.specs.declared.command.Command.{Command}
+use Rattle.scen_words.specs.declared.command.Command.TheVariants as command
+use Rattle.tap_flow_key.specs.Fnv.{fnv_of}
+use Rattle.tap_flow_key.specs.FlowKey.{hash}
+use Rattle.tap_frame.specs.Frame.{FrameValue, bytes_of}
+use Rattle.tap_frame.specs.declared.name.Name.{Name}
+use Rattle.tap_lines.specs.Told.{told_more}
+use Rattle.tap_steer.specs.declared.operation.Op.{Op}
+use Rattle.tap_steer.specs.declared.operation.Op.TheVariants as op
+use Rattle.tap_steer.specs.Named.{IsNamed}
+use Rattle.tap_steer.specs.Rules.{refuse}
+use Rattle.tap_steer.specs.Table.{Table}
+use Rattle.tap_trace.specs.declared.answer.Answer.TheVariants as answer
+use Rattle.tap_ground.specs.Options.{only_if}
+use Rattle.tap_world.specs.declared.event.EventKind.{EventKind}
+use Rattle.tap_world.specs.declared.event.EventKind.TheVariants as event
+use Rattle.tap_world.specs.declared.event.Found.TheVariants as found
+use Rattle.tap_world.specs.declared.told.Said.{Said}
+use Rattle.tap_world.specs.Effect as world
+use Rattle.tap_world.specs.Effect.{Effect}
+use Rattle.tap_world.specs.Setup.{Setup}
+use Rattle.tap_world.specs.Step.{publish_row, row}
+use Rattle.tap_world.specs.StepTable.{learns_flow}
+use Rattle.tap_world.specs.World as come
+use Rattle.tap_world.specs.World.{Actor, World, holds_writer, name_of}
+use Rattle.tap_sound.proofs.Kit.{only_some}
+use Rattle.core_shared.specs.Asking.{Asking, setup}
+use Rattle.core_shared.specs.Did.{Went}
+use Rattle.core_shared.specs.MayDo.{MayGo, actor_at}
+use Rattle.core_shared.specs.Suiting.{IsItsWritten}
+use Rattle.core_shared.specs.Worlds.{world_in}
+use Rattle.core_shared.specs.declared.doing.Doing.TheVariants as doing
+use Rattle.core_shared.specs.declared.onward.Onward.{Onward}
+use Rattle.core_shared.specs.declared.onward.Onward.TheVariants as on
+use Rattle.core_shared.specs.declared.shared.Shared.{Shared}
+use Rattle.core_table.proofs.Changes.{kind_is, publishing}
+use Rattle.core_table.proofs.Named.{about_file, none_some}
+use Rattle.core_table.proofs.Rested.{done, rests_hosting, rests_publishing}
+
+take_all : (xs : List ℕ) → take (length xs) xs ≡ xs
+take_all [] = refl
+take_all (x ∷ xs) = ap (λ (l : List ℕ). x ∷ l) (take_all xs)
+
+-- all its bytes
+whole_bytes : (a : Asking) (frame : FrameValue) → IsItsWritten a frame → bytes_of frame ≡ frame.made
+whole_bytes a frame w = ap (λ (n : ℕ). take n frame.made) w.whole ∙ take_all frame.made
+
+-- what is answered of it
+told_of : (a : Asking) (frame : FrameValue) → IsItsWritten a frame
+    → answer.Host (length (bytes_of frame)) (fnv_of (bytes_of frame)) ≡ answer.Host (length frame.made) (fnv_of frame.made)
+told_of a frame w = ap (λ (l : List ℕ). answer.Host (length l) (fnv_of l)) (whole_bytes a frame w)
+
+-- ---- the host gets it
+
+pub host_goes : (a : Asking) (old new : Shared) (file : ℕ) (frame : FrameValue) → MayGo a (doing.Hosts file frame true) old
+    → new ≡ record old { hosted = new.hosted } → new.hosted.items ≡ old.hosted.items ++ frame.name ∷ []
+    → Went a (doing.Hosts file frame true) old new (on.Goes a.seen (doing.Learns file frame) (found.Moved frame.name))
+host_goes a old new file frame m is names =
+    let its = m.1.suits in
+    (event.HostIn,
+    done a (doing.Hosts file frame true) event.HostIn old new
+    (on.Goes a.seen (doing.Learns file frame) (found.Moved frame.name)) [] (name_of a.actor a.number ∷ []) [] old.writer
+    (world.Onward.Goes a.seen (come.Doing.Learns file frame.made) (found.Moved (name_of a.actor a.number)))
+    (rests_hosting a old new (name_of a.actor a.number) m.1.held is
+    (names ∙ ap (λ (n : Name). old.hosted.items ++ n ∷ []) its.name)) m.1.held
+    (record { is_next = λ actors said. refl; is_row = λ actors said rest. refl })
+    (ap (λ (n : Name). world.Onward.Goes a.seen (come.Doing.Learns file frame.made) (found.Moved n)) (sym its.name))
+    its)
+
+pub host_ends : (a : Asking) (old new : Shared) (file : ℕ) (frame : FrameValue) → MayGo a (doing.Hosts file frame false) old
+    → new ≡ record old { hosted = new.hosted } → new.hosted.items ≡ old.hosted.items ++ frame.name ∷ []
+    → Went a (doing.Hosts file frame false) old new
+    (on.Ends a.seen (answer.Host (length (bytes_of frame)) (fnv_of (bytes_of frame))))
+host_ends a old new file frame m is names =
+    let its = m.1.suits in
+    subst (λ t. Went a (doing.Hosts file frame false) old new (on.Ends a.seen t)) (sym (told_of a frame its))
+    (event.HostIn,
+    done a (doing.Hosts file frame false) event.HostIn old new
+    (on.Ends a.seen (answer.Host (length frame.made) (fnv_of frame.made))) [] (name_of a.actor a.number ∷ []) [] old.writer
+    (world.Onward.Ends a.seen (answer.Host (length frame.made) (fnv_of frame.made)))
+    (rests_hosting a old new (name_of a.actor a.number) m.1.held is
+    (names ∙ ap (λ (n : Name). old.hosted.items ++ n ∷ []) its.name)) m.1.held
+    (record { is_next = λ actors said. refl; is_row = λ actors said rest. refl })
+    refl tt)
+
+-- ---- its flow is learnt
+
+if_none : (b : Bool) (r : Effect) → (if b then None else None) ≡ Some r → ⊥
+if_none true r e = none_some r e
+if_none false r e = none_some r e
+
+-- only a write comes so far
+learn_row : (s : Setup) (w v : World) (actor file : ℕ) (ether : List ℕ) (c : Command) (r : Effect)
+    → publish_row s w actor (come.Doing.Learns file ether) c ≡ Some r
+    → publish_row s v actor (come.Doing.Learns file ether) c ≡ only_if (is_none v.writer) (learns_flow v file ether)
+learn_row s w v actor file ether (command.Backend vhost ring o) r e = absurd (if_none (holds_writer w actor) r e)
+learn_row s w v actor file ether (command.TxTurn vhost) r e = none_some r e
+learn_row s w v actor file ether c r e = refl
+
+-- nobody holds the writer
+learn_free : (a : Asking) (x : Shared) (file : ℕ) (frame : FrameValue) → MayGo a (doing.Learns file frame) x
+    → is_none x.writer ≡ true
+learn_free a x file frame m =
+    let may = m.1 in
+    let w = world_in x may.actors may.said in
+    let so_far = come.Doing.Learns file frame.made in
+    let kind : event.Publish ≡ m.0 = kind_is a (doing.Learns file frame) x m event.Publish refl in
+    let is : publish_row (setup a) w a.actor so_far a.command ≡ Some may.event.effect =
+    ap (λ (q : EventKind). row (setup a) w q a.actor (actor_at a so_far may.rest) a.number a.command) kind ∙ may.event.is_row in
+    (only_some (is_none x.writer) (learns_flow w file frame.made) may.event.effect
+    (sym (learn_row (setup a) w w a.actor file frame.made a.command may.event.effect is) ∙ is)).0
+
+learn_rows : (a : Asking) (x : Shared) (file : ℕ) (frame : FrameValue) (m : MayGo a (doing.Learns file frame) x)
+    → (v : World)
+    → publish_row (setup a) v a.actor (come.Doing.Learns file frame.made) a.command
+    ≡ only_if (is_none v.writer) (learns_flow v file frame.made)
+learn_rows a x file frame m v =
+    let may = m.1 in
+    let w = world_in x may.actors may.said in
+    let so_far = come.Doing.Learns file frame.made in
+    let kind : event.Publish ≡ m.0 = kind_is a (doing.Learns file frame) x m event.Publish refl in
+    learn_row (setup a) w v a.actor file frame.made a.command may.event.effect
+    (ap (λ (q : EventKind). row (setup a) w q a.actor (actor_at a so_far may.rest) a.number a.command) kind ∙ may.event.is_row)
+
+-- a learning names a file of the table, and is never refused
+pub learn_named : (a : Asking) (x : Shared) (file flow : ℕ) (frame : FrameValue) → MayGo a (doing.Learns file frame) x
+    → IsNamed x.ops.table (op.Learn file flow)
+learn_named a x file flow frame m = about_file a (doing.Learns file frame) m.0 x file m.1 refl
+
+pub learn_lawful : (t : Table) (file flow : ℕ) → refuse t (op.Learn file flow) ≡ None
+unfolding refuse
+learn_lawful t file flow = refl
+
+learnt : (a : Asking) (x : Shared) (file : ℕ) (frame : FrameValue) → MayGo a (doing.Learns file frame) x
+    → Went a (doing.Learns file frame) x (publishing a x (op.Learn file (hash frame.made)) x.writer)
+    (on.Ends (length x.ops.ops + 1) (answer.Host (length frame.made) (fnv_of frame.made)))
+learnt a x file frame m =
+    let so_far = come.Doing.Learns file frame.made in
+    let y = op.Learn file (hash frame.made) in
+    (event.Publish,
+    done a (doing.Learns file frame) event.Publish x (publishing a x y x.writer)
+    (on.Ends (length x.ops.ops + 1) (answer.Host (length frame.made) (fnv_of frame.made))) (y ∷ []) [] [] x.writer
+    (world.Onward.Ends (length x.ops.ops + 1) (answer.Host (length frame.made) (fnv_of frame.made)))
+    (rests_publishing a x y x.writer m.1.held) m.1.held
+    (record {
+      is_next = λ actors said. refl;
+      is_row = λ actors said rest.
+          learn_rows a x file frame m (world_in x actors said)
+          ∙ ap (λ (b : Bool). only_if b (learns_flow (world_in x actors said) file frame.made)) (learn_free a x file frame m);
+    }) refl tt)
+
+-- it ends so, with the bytes that the frame has
+pub learn_ends : (a : Asking) (old new : Shared) (file version flow : ℕ) (frame : FrameValue) (how : Onward)
+    → MayGo a (doing.Learns file frame) old → flow ≡ hash (bytes_of frame) → version ≡ length old.ops.ops + 1
+    → new ≡ publishing a old (op.Learn file flow) old.writer
+    → how ≡ on.Ends version (answer.Host (length (bytes_of frame)) (fnv_of (bytes_of frame)))
+    → Went a (doing.Learns file frame) old new how
+learn_ends a old new file version flow frame how m hashed seen is ends =
+    let its = m.1.suits in
+    let whole = whole_bytes a frame its in
+    let new_is : new ≡ publishing a old (op.Learn file (hash frame.made)) old.writer =
+    is ∙ ap (λ (h : ℕ). publishing a old (op.Learn file h) old.writer) (hashed ∙ ap hash whole) in
+    let how_is : how ≡ on.Ends (length old.ops.ops + 1) (answer.Host (length frame.made) (fnv_of frame.made)) =
+    ends ∙ ap (λ (n : ℕ). on.Ends n (answer.Host (length (bytes_of frame)) (fnv_of (bytes_of frame)))) seen
+    ∙ ap (λ t. on.Ends (length old.ops.ops + 1) t) (told_of a frame its) in
+    subst (λ (x : Shared). Went a (doing.Learns file frame) old x how) (sym new_is)
+    (subst (λ (o : Onward). Went a (doing.Learns file frame) old (publishing a old (op.Learn file (hash frame.made)) old.writer) o)
+    (sym how_is) (learnt a old file frame m))
