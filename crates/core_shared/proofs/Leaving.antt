@@ -1,11 +1,10 @@
 -- This project's own: what an event leaves, part by part.
-use Rattle.std.proofs.Common.{◌≡◌, ◌≢◌, ◌⊎◌, ℕ, zero, suc, List, [], ◌∷◌, ◌++◌, length, map, Bool, true, false, Option, Some, None, inl, inr, refl, sym, ap, ◌∙◌, subst, true≢false, append-nil, eq-eqb, arith}
+use Rattle.std.proofs.Common.{◌≡◌, ◌≢◌, ℕ, zero, suc, List, [], ◌∷◌, ◌++◌, map, true, false, Option, Some, None, inl, inr, refl, sym, ap, ◌∙◌, subst, true≢false, append-nil, eq-eqb}
 use Rattle.std.proofs.lemmas.List.{map_push}
 use Rattle.std.specs.Prelude.{◌==◌, IfSome, option_map, option_to_list, slice_get, slice_set}
 use Rattle.std.specs.Option.{option_map_or}
 use Rattle.guest_mem.specs.Memory.{Contents}
 use Rattle.tap_frame.specs.Frame.{FrameValue}
-use Rattle.tap_frame.specs.declared.name.Name.{Name}
 use Rattle.tap_guests.specs.Side.{Side}
 use Rattle.tap_guests.specs.Within.{IsIn, StaysIn}
 use Rattle.tap_lines.specs.Files.{files_of}
@@ -25,7 +24,7 @@ use Rattle.tap_world.specs.Effect.{Effect, files_after, guests_after, on_file, o
 use Rattle.tap_world.specs.Effect.OnFiles.{OnFile}
 use Rattle.tap_world.specs.Effect.OnGuests.{OnGuest}
 use Rattle.tap_world.specs.Effect.OnVhosts.{OnVhost}
-use Rattle.tap_world.specs.Guests.{Guest, Vhost, turn_of}
+use Rattle.tap_world.specs.Guests.{Guest, turn_of}
 use Rattle.tap_world.specs.Line.{File}
 use Rattle.tap_world.specs.LineSteps.{Change, changed}
 use Rattle.tap_world.specs.Setup.{Setup, opening_table}

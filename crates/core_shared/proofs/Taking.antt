@@ -1,6 +1,6 @@
 -- This project's own: what may be used where an event may be done.
-use Rattle.std.proofs.Common.{◌≡◌, ℕ, zero, suc, ◌+◌, ◌<◌, lit<, List, [], ◌∷◌, ◌++◌, length, map, Bool, true, false, Option, Some, None, refl, sym, ap, ◌∙◌, subst, true≢false, eq-eqb, inl, inr, arith}
-use Rattle.std.specs.Prelude.{◌==◌, ◌&&◌, IfSome, IsSome, MatchOption, flat_map, fold, is_some, option_map, slice_get}
+use Rattle.std.proofs.Common.{◌≡◌, ℕ, zero, suc, ◌+◌, ◌<◌, lit<, List, [], ◌∷◌, ◌++◌, length, Bool, true, false, Option, Some, None, refl, sym, ap, ◌∙◌, subst, true≢false, eq-eqb, inl, inr, arith}
+use Rattle.std.specs.Prelude.{◌==◌, ◌&&◌, IsSome, MatchOption, flat_map, fold, is_some, option_map, slice_get}
 use Rattle.std.specs.Option.{option_map_or}
 use Rattle.std.specs.List.{AllByRecursion}
 use Rattle.std.proofs.lemmas.Bool.Decides.{eqb_tells}
@@ -26,14 +26,13 @@ use Rattle.tap_guests.specs.Within.{IsIn}
 use Rattle.tap_lines.specs.Files.{files_of}
 use Rattle.tap_lines.specs.Placed.{MayChange, Placed}
 use Rattle.tap_world.specs.declared.event.EventKind.{EventKind}
-use Rattle.tap_world.specs.ByNumber.{at, with_at}
+use Rattle.tap_world.specs.ByNumber.{at}
 use Rattle.tap_world.specs.Effect.{Effect, files_after}
 use Rattle.tap_world.specs.Effect.OnFiles.{OnFile}
-use Rattle.tap_world.specs.Frames.{FrameText}
 use Rattle.tap_world.specs.Guests.{Guest, Vhost, turn_of}
 use Rattle.tap_world.specs.Line.{File}
 use Rattle.tap_world.specs.LineSteps.{Change, changed}
-use Rattle.tap_world.specs.Setup.{Declared, NamesDeclared, Numbered, Setup, frame_sent, line_of, nothing_of, sent_by, setup_of, with_declaration}
+use Rattle.tap_world.specs.Setup.{Declared, NamesDeclared, Setup, frame_sent, line_of, nothing_of, sent_by, setup_of, with_declaration}
 use Rattle.tap_world.specs.SoundRings.{holds_turn, is_about, ring_in}
 use Rattle.tap_world.specs.Steady.{file_in}
 use Rattle.tap_world.specs.Step.{row}
@@ -45,7 +44,7 @@ use Rattle.tap_sound.proofs.Kit.{some_same, then_some}
 use Rattle.vring_turns.specs.RxTurn.{RxTurn}
 use Rattle.vring_turns.specs.TxTurn.{TxTurn}
 use Rattle.core_shared.specs.Asking.{Asking, setup}
-use Rattle.core_shared.specs.Coming.{at_rx, at_tx, come_of, host_frame, rx_turn_in, tx_turn_in}
+use Rattle.core_shared.specs.Coming.{come_of, host_frame, rx_turn_in, tx_turn_in}
 use Rattle.core_shared.specs.MayDo.{MayDo, actor_at}
 use Rattle.core_shared.specs.Worlds.{vhosts_of, world_in}
 use Rattle.core_shared.specs.declared.doing.Doing.{Doing}

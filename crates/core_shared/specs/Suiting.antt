@@ -1,6 +1,5 @@
 -- This project's own: that what a command carries, as far as it has come, is that command's.
 use Rattle.std.specs.Prelude.{◌≡◌, ℕ, List, length, Option, Some, None, IsSome}
-use Rattle.scen_words.specs.declared.command.Command.{Command}
 use Rattle.scen_words.specs.declared.command.Command.TheVariants as command
 use Rattle.tap_frame.specs.Frame.{FrameValue}
 use Rattle.tap_guests.specs.Side.{Side}
