@@ -41,7 +41,8 @@ use Rattle.core_shared.specs.declared.onward.Onward.{Onward}
 use Rattle.core_shared.specs.declared.onward.Onward.TheVariants as on
 use Rattle.core_shared.specs.declared.shared.Shared.{Shared}
 use Rattle.core_table.specs.Course.{course_of}
-use Rattle.core_table.proofs.Named.{none_some, own_named}
+use Rattle.core_table.proofs.Named.{none_some}
+use Rattle.core_shared.proofs.Named.{named_own}
 use Rattle.core_table.proofs.Rested.{done, effect_with, rests, rests_publishing}
 
 -- ---- the row of a command with an operation
@@ -266,7 +267,7 @@ lawful a x d y m is to = none_is (refuse x.ops.table y) (both_true _ _ (holds_it
 
 -- and names what is there
 pub op_named : (a : Asking) (x : Shared) (d : Doing) (y : Op) → MayGo a d x → IsItsOp a y → IsNamed x.ops.table y
-op_named a x d y m is = own_named a d m.0 x y m.1 is
+op_named a x d y m is = named_own m.1 y is
 
 -- it is published, and the command goes on or ends so
 published : (a : Asking) (x : Shared) (d : Doing) (y : Op) (writer : Option ℕ) (o : world.Onward) (how : Onward)
