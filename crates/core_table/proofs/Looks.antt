@@ -1,11 +1,13 @@
 -- The looks of a read and of a write.
-use Rattle.std.proofs.Common.{◌≡◌, ℕ, List, [], ◌∷◌, length, Bool, true, false, Option, Some, None, refl, sym, ap, ◌∙◌, subst}
-use Rattle.std.specs.Prelude.{if◌then◌else◌, nat_lt}
+use Rattle.std.proofs.Common.{◌≡◌, ◌≢◌, ℕ, List, [], ◌∷◌, length, Bool, true, false, Option, Some, None, refl, sym, ap, ◌∙◌, subst}
+use Rattle.std.specs.Prelude.{if◌then◌else◌, nat_lt, option_map, IfOk, OnOk, Result, Ok, Err}
 use Rattle.scen_words.specs.declared.command.Command.{Command}
 use Rattle.scen_words.specs.declared.command.Command.TheVariants as command
 use Rattle.tap_frame.specs.Frame.{FrameValue}
+use Rattle.tap_frame.specs.Spelling.{Refuses, first_case}
 use Rattle.tap_frame.specs.Text.{least_room}
 use Rattle.tap_frame.specs.declared.reading.BadFrame.{BadFrame}
+use Rattle.tap_frame.specs.declared.reading.BadFrame.TheVariants.{NoMemory}
 use Rattle.tap_frame.specs.declared.shape.Shape.{Shape}
 use Rattle.tap_guests.specs.Backs.{front_of}
 use Rattle.tap_ledger.specs.declared.error.TapErr.TheVariants.{EBADFD}
@@ -183,3 +185,28 @@ write_goes a x file bytes shape frame learns m is e none named made whole learnt
     ∙ ap (λ (b : Bool). world.Onward.Goes (length x.ops.ops) (come.Doing.Hosts file frame.made b)
     (found.Version (length x.ops.ops))) (sym learnt))
     (record { name = named; whole = whole })
+
+-- ---- the same, as the code says it
+
+pub front_found : (x : Shared) (file : ℕ) (t : Table) (r : Option Shape) (shape : Shape) → t ≡ x.ops.table
+    → option_map (λ (s : Shape). steer.parts_of s) r ≡ steer.shape_of t file → r ≡ Some shape
+    → steer.shape_of x.ops.table file ≡ Some (front_of shape)
+front_found x file t r shape table_is finds is =
+    ap (λ (u : Table). steer.shape_of u file) (sym table_is) ∙ sym finds
+    ∙ ap (λ (o : Option Shape). option_map (λ (s : Shape). steer.parts_of s) o) is
+
+case_is : (o : Option BadFrame) (bad : BadFrame) → Refuses o bad → bad ≢ NoMemory → o ≡ Some bad
+case_is None bad h other = absurd (other h)
+case_is (Some b) bad h other = ap (λ (c : BadFrame). Some c) (sym h)
+
+pub bad_written : {E : Type 0} (a : Asking) (x : Shared) (file : ℕ) (bytes : List ℕ) (shape : Shape) (bad : BadFrame)
+    (seen : ℕ) (r : Result Onward E) → MayGo a doing.Begun x → a.command ≡ command.Write file bytes
+    → steer.shape_of x.ops.table file ≡ Some (front_of shape) → Refuses (first_case shape bytes) bad
+    → seen ≡ length x.ops.ops
+    → IfOk r (λ (o : Onward). o ≡ on.Ends seen (answer.Bad bad)) → OnOk r (bad ≢ NoMemory)
+    → IfOk r (λ (o : Onward). Went a doing.Begun x x o)
+bad_written a x file bytes shape bad seen (Ok o) m is e why sees ends other =
+    subst (λ (q : Onward). Went a doing.Begun x x q)
+    (sym (ends ∙ ap (λ (n : ℕ). on.Ends n (answer.Bad bad)) sees))
+    (write_bad a x file bytes shape bad m is e (case_is (first_case shape bytes) bad why other))
+bad_written a x file bytes shape bad seen (Err e_) m is e why sees ends other = tt

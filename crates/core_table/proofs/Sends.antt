@@ -1,7 +1,7 @@
 -- The look of a send.
-use Rattle.std.proofs.Common.{◌≡◌, ℕ, ◌≤◌, List, [], ◌∷◌, ◌++◌, length, take, min, Bool, true, false, Option, Some, None, refl, sym, ap, ◌∙◌, subst, arith}
+use Rattle.std.proofs.Common.{◌≡◌, ◌≢◌, ◌⊎◌, ⊎_elim, ℕ, ◌≤◌, List, [], ◌∷◌, ◌++◌, length, take, min, Bool, true, false, Option, Some, None, refl, sym, ap, ◌∙◌, subst, arith}
 use Rattle.std.proofs.Math.Nat.{min-eq_left, min-eq_right, min-le_right}
-use Rattle.std.specs.Prelude.{◌==◌, if◌then◌else◌, option_map, slice_get}
+use Rattle.std.specs.Prelude.{◌==◌, if◌then◌else◌, option_map, slice_get, IfOk, OnOk, Result, Ok, Err}
 use Rattle.std.specs.Option.{option_map_or}
 use Rattle.scen_words.specs.declared.command.Command.{Command}
 use Rattle.scen_words.specs.declared.command.Command.TheVariants as command
@@ -9,6 +9,7 @@ use Rattle.tap_frame.specs.Frame.{FrameValue, bytes_of, cut_at}
 use Rattle.tap_frame.specs.declared.header.Hdr.{Hdr}
 use Rattle.tap_frame.specs.declared.name.Name.{Name}
 use Rattle.tap_frame.specs.declared.reading.BadFrame.{BadFrame}
+use Rattle.tap_frame.specs.declared.reading.BadFrame.TheVariants.{NoMemory}
 use Rattle.tap_ledger.specs.declared.fate.Cause.{Cause}
 use Rattle.tap_ledger.specs.declared.fate.Cause.TheVariants as cause
 use Rattle.tap_queues.specs.declared.queues.Row.{Row as QueueRow}
@@ -36,6 +37,7 @@ use Rattle.core_shared.specs.MayDo.{MayGo, actor_at}
 use Rattle.core_shared.specs.Suiting.{IsSent}
 use Rattle.core_shared.specs.Worlds.{world_in}
 use Rattle.core_shared.specs.declared.doing.Doing.TheVariants as doing
+use Rattle.core_shared.specs.declared.onward.Onward.{Onward}
 use Rattle.core_shared.specs.declared.onward.Onward.TheVariants as on
 use Rattle.core_shared.specs.declared.shared.Shared.{Shared}
 use Rattle.core_shared.proofs.Taking as taking
@@ -197,3 +199,68 @@ send_routed a x device frame kept to keep resizes capacity m s e is =
       sent = subst (IsSent (setup a)) (sym wanted) (is_sent a x device keep frame m s within whole);
       name = ap (λ (f : FrameValue). f.name) wanted;
     })
+
+-- ---- the same, as the code says it
+
+chosen_so : (a : Asking) (x : Shared) (device : ℕ) (frame : FrameValue) (t : Table) (bytes : List ℕ) (chosen wanted : Select)
+    → Sends a device frame → t ≡ x.ops.table → bytes ≡ bytes_of frame → chosen ≡ steer.select t device bytes
+    → chosen ≡ wanted → steer.select x.ops.table device frame.made ≡ wanted
+chosen_so a x device frame t bytes chosen wanted s table_is all picks is =
+    ap (λ (l : List ℕ). steer.select x.ops.table device l) (sym (all ∙ bytes_are a device frame s))
+    ∙ ap (λ (u : Table). steer.select u device bytes) (sym table_is) ∙ sym picks ∙ is
+
+pub if_unqueued : {E : Type 0} (a : Asking) (old new : Shared) (device : ℕ) (frame : FrameValue) (t : Table)
+    (bytes : List ℕ) (chosen : Select) (r : Result Onward E) → MayGo a doing.Begun old → Sends a device frame
+    → t ≡ old.ops.table → bytes ≡ bytes_of frame → chosen ≡ steer.select t device bytes → chosen ≡ select.NoQueue
+    → OnOk r (new ≡ record old { dropped = new.dropped })
+    → OnOk r (new.dropped.items ≡ old.dropped.items ++ frame.name ∷ [])
+    → IfOk r (λ (o : Onward). o ≡ on.Ends (length old.ops.ops) (answer.Dropped None cause.NoQueue))
+    → IfOk r (λ (o : Onward). Went a doing.Begun old new o)
+if_unqueued a old new device frame t bytes chosen (Ok o) m s table_is all picks is stays names ends =
+    subst (λ (q : Onward). Went a doing.Begun old new q) (sym ends)
+    (drops_unqueued a old new device frame m s
+    (chosen_so a old device frame t bytes chosen select.NoQueue s table_is all picks is) stays names)
+if_unqueued a old new device frame t bytes chosen (Err e) m s table_is all picks is stays names ends = tt
+
+pub if_filtered : {E : Type 0} (a : Asking) (old new : Shared) (device : ℕ) (frame : FrameValue) (t : Table)
+    (bytes : List ℕ) (chosen : Select) (r : Result Onward E) → MayGo a doing.Begun old → Sends a device frame
+    → t ≡ old.ops.table → bytes ≡ bytes_of frame → chosen ≡ steer.select t device bytes → chosen ≡ select.Filtered
+    → OnOk r (new ≡ record old { dropped = new.dropped })
+    → OnOk r (new.dropped.items ≡ old.dropped.items ++ frame.name ∷ [])
+    → IfOk r (λ (o : Onward). o ≡ on.Ends (length old.ops.ops) (answer.Dropped None cause.Filtered))
+    → IfOk r (λ (o : Onward). Went a doing.Begun old new o)
+if_filtered a old new device frame t bytes chosen (Ok o) m s table_is all picks is stays names ends =
+    subst (λ (q : Onward). Went a doing.Begun old new q) (sym ends)
+    (drops_filtered a old new device frame m s
+    (chosen_so a old device frame t bytes chosen select.Filtered s table_is all picks is) stays names)
+if_filtered a old new device frame t bytes chosen (Err e) m s table_is all picks is stays names ends = tt
+
+pub row_found : (a : Asking) (x : Shared) (device : ℕ) (frame kept : FrameValue) (t : Table) (bytes : List ℕ)
+    (chosen : Select) (to : QueueRow) (keep resizes capacity seen : ℕ) → MayGo a doing.Begun x → Sends a device frame
+    → t ≡ x.ops.table → bytes ≡ bytes_of frame → chosen ≡ steer.select t device bytes
+    → chosen ≡ select.Row to keep resizes capacity → seen ≡ length x.ops.ops → kept ≡ cut_at frame keep
+    → Went a doing.Begun x x (on.Goes seen (doing.Routed to.file to.epoch kept) (found.Version seen))
+row_found a x device frame kept t bytes chosen to keep resizes capacity seen m s table_is all picks is sees cuts =
+    subst (λ (n : ℕ). Went a doing.Begun x x (on.Goes n (doing.Routed to.file to.epoch kept) (found.Version n))) (sym sees)
+    (send_routed a x device frame kept to keep resizes capacity m s
+    (chosen_so a x device frame t bytes chosen (select.Row to keep resizes capacity) s table_is all picks is) cuts)
+
+pub bad_found : {E : Type 0} (a : Asking) (x : Shared) (device : ℕ) (hdr : Option Hdr) (bytes : List ℕ) (bad : BadFrame)
+    (seen : ℕ) (r : Result Onward E) → MayGo a doing.Begun x → a.command ≡ command.Send device hdr bytes
+    → (bad ≡ NoMemory) ⊎ (bad_in (sent_front hdr) (sent_bytes hdr bytes) ≡ Some bad) → seen ≡ length x.ops.ops
+    → IfOk r (λ (o : Onward). o ≡ on.Ends seen (answer.Bad bad)) → OnOk r (bad ≢ NoMemory)
+    → IfOk r (λ (o : Onward). Went a doing.Begun x x o)
+bad_found a x device hdr bytes bad seen (Ok o) m is why sees ends other =
+    subst (λ (q : Onward). Went a doing.Begun x x q)
+    (sym (ends ∙ ap (λ (n : ℕ). on.Ends n (answer.Bad bad)) sees))
+    (⊎_elim (λ none. absurd (other none)) (λ e. send_bad a x device hdr bytes bad m is e) why)
+bad_found a x device hdr bytes bad seen (Err e) m is why sees ends other = tt
+
+take_front : (xs ys : List ℕ) → xs ≡ take (length xs) (xs ++ ys)
+take_front [] ys = refl
+take_front (x ∷ xs) ys = ap (λ (l : List ℕ). x ∷ l) (take_front xs ys)
+
+-- a header in front of other bytes is the first ten of them
+pub header_front : (front hdr ether : List ℕ) → front ≡ hdr → length front ≡ 10 → front ≡ take 10 (hdr ++ ether)
+header_front front hdr ether is ten =
+    take_front front ether ∙ ap (λ (n : ℕ). take n (front ++ ether)) ten ∙ ap (λ (l : List ℕ). take 10 (l ++ ether)) is

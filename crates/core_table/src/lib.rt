@@ -7,6 +7,7 @@
 //! once the host has it ([`host`]). [`op_of`] is the operation of a command.
 #![tactic(auto)]
 
+mod bad;
 mod change;
 mod operation;
 mod publish;

@@ -1,6 +1,6 @@
 //! The look of a send.
 
-ghost use Rattle.std.specs.Prelude.{◌≡◌, ◌++◌, ◌∷◌, [], length, IfErr, IfOk, None, OnOk};
+ghost use Rattle.std.specs.Prelude.{◌≡◌, ◌⊎◌, ◌++◌, ◌∷◌, [], length, IfErr, IfOk, None, OnOk, Some};
 ghost use Rattle.core_shared.specs.Did.{Went};
 ghost use Rattle.core_shared.specs.MayDo.{MayGo};
 ghost use Rattle.core_shared.specs.declared.doing.Doing.TheVariants as doing;
@@ -8,9 +8,10 @@ ghost use Rattle.core_shared.specs.declared.onward.Onward.TheVariants as onward;
 ghost use Rattle.tap_trace.specs.declared.answer.Answer.TheVariants as answer;
 ghost use Rattle.core_table.specs.Sent.{Sends, whole_frame};
 ghost use Rattle.scen_words.specs.declared.command.Command.TheVariants as command;
-ghost use Rattle.tap_frame.specs.Spelling.{Refuses};
+ghost use Rattle.tap_frame.specs.declared.reading.BadFrame.TheVariants.{NoMemory};
 ghost use Rattle.tap_world.specs.Frames.{bad_in, sent_bytes, sent_front};
 
+use crate::bad::end_bad;
 use core_shared::{Asked, Doing, Onward, Shared};
 use std::alloc::{AllocError, Global};
 use tap_frame::{BadFrame, Frame, Hdr, Name, Shape, read_parts};
@@ -40,11 +41,7 @@ pub fn begin_send(
 {
     match sent(alloc, asked.name(), hdr, bytes) {
         Ok(frame) => route(shared, asked, device, frame),
-        Err(BadFrame::NoMemory) => Err(AllocError),
-        Err(bad) => Ok(Onward::Ends {
-            seen: shared.ops.newest() as u64,
-            answer: Answer::Bad(bad),
-        }),
+        Err(bad) => end_bad(shared.ops.newest() as u64, bad),
     }
 }
 
@@ -57,7 +54,8 @@ fn sent(
 ) -> Result<Frame, BadFrame>
     ensures frame { IfOk result (λ frame. frame ≡ whole_frame name (sent_front hdr) (sent_bytes hdr bytes.now)) }
     ensures accepted { OnOk result (bad_in (sent_front hdr) (sent_bytes hdr bytes.now) ≡ None) }
-    ensures refused { IfErr result (Refuses (bad_in (sent_front hdr) (sent_bytes hdr bytes.now))) }
+    ensures refused { IfErr result (λ bad.
+        (bad ≡ NoMemory) ⊎ (bad_in (sent_front hdr) (sent_bytes hdr bytes.now) ≡ Some bad)) }
 {
     let ether = Vec::from_slice(alloc, bytes)?;
     match hdr {
@@ -76,10 +74,18 @@ fn sent(
                 hdr: Some(10),
             },
             name,
-            &hdr.bytes,
+            header_bytes(&hdr),
             ether,
         ),
     }
+}
+
+// The ten bytes of a header.
+fn header_bytes(hdr: &Hdr) -> &[u8]
+    ensures bytes { result.now ≡ hdr.now.bytes }
+    ensures ten { length result.now ≡ 10 }
+{
+    &hdr.bytes
 }
 
 // The frame that is sent is kept for the row that it has at the device, or is dropped.

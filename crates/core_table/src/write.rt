@@ -9,11 +9,12 @@ ghost use Rattle.tap_flow_key.specs.Fnv.{fnv_of};
 ghost use Rattle.tap_frame.specs.Frame.{bytes_of};
 ghost use Rattle.tap_trace.specs.declared.answer.Answer.TheVariants as answer;
 
+use crate::bad::end_bad;
 use crate::publish::publish;
 use core_shared::{Asked, Doing, Onward, Shared};
 use std::alloc::{AllocError, Global};
 use tap_flow_key::{flow_hash, fnv};
-use tap_frame::{BadFrame, Frame, read_frame};
+use tap_frame::{Frame, read_frame};
 use tap_steer::{Op, TapErr};
 use tap_trace::Answer;
 use tap_world::Found;
@@ -52,11 +53,7 @@ pub fn begin_write(
             },
             found: Found::Version(seen),
         }),
-        Err(BadFrame::NoMemory) => Err(AllocError),
-        Err(bad) => Ok(Onward::Ends {
-            seen,
-            answer: Answer::Bad(bad),
-        }),
+        Err(bad) => end_bad(seen, bad),
     }
 }
 
