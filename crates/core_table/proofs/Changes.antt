@@ -135,12 +135,13 @@ next_look a x y is actors said =
 pub look_refused : (a : Asking) (x : Shared) (y : Op) (refusal : TapErr) → MayGo a doing.Begun x → IsItsOp a y
     → refuse x.ops.table y ≡ Some refusal
     → Went a doing.Begun x x (on.Ends (length x.ops.ops) (answer.Tap refusal))
-look_refused a x y refusal m is e =
-    (event.Look,
-    done a doing.Begun event.Look x x (on.Ends (length x.ops.ops) (answer.Tap refusal)) [] [] [] x.writer
-    (world.Onward.Ends (length x.ops.ops) (answer.Tap refusal))
-    (rests a x x.writer m.1.held) m.1.held
-    (record { is_next = next_look a x y is; is_row = decides a x y (Some refusal) m is e }) refl tt)
+look_refused a x y refusal m is e = (
+  event.Look,
+  done a doing.Begun event.Look x x (on.Ends (length x.ops.ops) (answer.Tap refusal)) [] [] [] x.writer
+      (world.Onward.Ends (length x.ops.ops) (answer.Tap refusal))
+      (rests a x x.writer m.1.held) m.1.held
+      (record { is_next = next_look a x y is; is_row = decides a x y (Some refusal) m is e }) refl tt,
+)
 
 -- ---- how it goes on
 
@@ -204,16 +205,17 @@ suits_course vhosts a t (op.Back file side vhost) is = is
 pub look_held : (a : Asking) (x : Shared) (y : Op) → MayGo a doing.Begun x → IsItsOp a y → refuse x.ops.table y ≡ None
     → Went a doing.Begun x (record x { writer = Some a.actor })
     (on.Goes (length x.ops.ops) (course_of x.ops.table y) (found.Version (length x.ops.ops)))
-look_held a x y m is e =
-    (event.Look,
-    done a doing.Begun event.Look x (record x { writer = Some a.actor })
-    (on.Goes (length x.ops.ops) (course_of x.ops.table y) (found.Version (length x.ops.ops))) [] [] [] (Some a.actor)
-    (world.Onward.Goes (length x.ops.ops) (course x.ops.table y) (found.Version (length x.ops.ops)))
-    (rests a x (Some a.actor) m.1.held) m.1.held
-    (record { is_next = next_look a x y is; is_row = decides a x y None m is e })
-    (ap (λ (d : come.Doing). world.Onward.Goes (length x.ops.ops) d (found.Version (length x.ops.ops)))
-    (sym (come_course x.vhosts x.ops.table y)))
-    (suits_course x.vhosts a x.ops.table y is))
+look_held a x y m is e = (
+  event.Look,
+  done a doing.Begun event.Look x (record x { writer = Some a.actor })
+      (on.Goes (length x.ops.ops) (course_of x.ops.table y) (found.Version (length x.ops.ops))) [] [] [] (Some a.actor)
+      (world.Onward.Goes (length x.ops.ops) (course x.ops.table y) (found.Version (length x.ops.ops)))
+      (rests a x (Some a.actor) m.1.held) m.1.held
+      (record { is_next = next_look a x y is; is_row = decides a x y None m is e })
+      (ap (λ (d : come.Doing). world.Onward.Goes (length x.ops.ops) d (found.Version (length x.ops.ops)))
+      (sym (come_course x.vhosts x.ops.table y)))
+      (suits_course x.vhosts a x.ops.table y is),
+)
 
 -- ---- its publication
 
@@ -279,20 +281,21 @@ published : (a : Asking) (x : Shared) (d : Doing) (y : Op) (writer : Option ℕ)
       ops = told_more (record { phase = x.phase; actor = a.actor; command = a.number; op = y }) x.ops;
       writer = writer;
     }) how
-published a x d y writer o how m is to own onward suits =
-    (event.Publish,
-    done a d event.Publish x (record x {
-      ops = told_more (record { phase = x.phase; actor = a.actor; command = a.number; op = y }) x.ops;
-      writer = writer;
-    }) how (y ∷ []) [] [] writer o (rests_publishing a x y writer m.1.held) m.1.held
-    (record {
-      is_next = λ actors said. to.next (world_in x actors said) a.command;
-      is_row = λ actors said rest.
-          publishes_in a x (come_of x.vhosts d) actors said y m.1.held is to
-          ∙ ap (λ (b : Bool). if b then publishes_own (world_in x actors said) y (come_of x.vhosts d) else None)
-          (holds_it a x d y m is to)
-          ∙ own actors said;
-    }) onward suits)
+published a x d y writer o how m is to own onward suits = (
+  event.Publish,
+  done a d event.Publish x (record x {
+    ops = told_more (record { phase = x.phase; actor = a.actor; command = a.number; op = y }) x.ops;
+    writer = writer;
+  }) how (y ∷ []) [] [] writer o (rests_publishing a x y writer m.1.held) m.1.held
+      (record {
+        is_next = λ actors said. to.next (world_in x actors said) a.command;
+        is_row = λ actors said rest.
+            publishes_in a x (come_of x.vhosts d) actors said y m.1.held is to
+            ∙ ap (λ (b : Bool). if b then publishes_own (world_in x actors said) y (come_of x.vhosts d) else None)
+            (holds_it a x d y m is to)
+            ∙ own actors said;
+      }) onward suits,
+)
 
 pub to_change : IsToPublish come.Doing.Changes
 to_change = record { next = λ w c. refl; own = λ s w actor c. refl }

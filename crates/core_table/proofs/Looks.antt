@@ -1,4 +1,4 @@
--- The looks of a read and of a write.
+-- A look that leaves all as it is; and that of a write of bytes that are no frame.
 use Rattle.std.proofs.Common.{◌≡◌, ◌≢◌, ℕ, List, [], ◌∷◌, length, Bool, true, false, Option, Some, None, refl, sym, ap, ◌∙◌, subst}
 use Rattle.std.specs.Prelude.{if◌then◌else◌, nat_lt, option_map, IfOk, OnOk, Result, Ok, Err}
 use Rattle.scen_words.specs.declared.command.Command.{Command}
@@ -48,76 +48,14 @@ pub looks_on : (a : Asking) (x : Shared) (o : world.Onward) (how : Onward) → M
     → row (setup a) (world_in x actors said) event.Look a.actor act a.number a.command ≡ Some (only o (world_in x actors said)))
     → written_out a.seen come.Doing.Begun o ≡ onward_of x.vhosts how → SuitsOn x.vhosts a how
     → Went a doing.Begun x x how
-looks_on a x o how m first rows onward suits =
-    (event.Look,
-    done a doing.Begun event.Look x x how [] [] [] x.writer o (rests a x x.writer m.1.held) m.1.held
-    (record {
-      is_next = λ actors said. ap (λ (k : EventKind). Some k) (first (world_in x actors said));
-      is_row = λ actors said rest. rows actors said (actor_at a come.Doing.Begun rest);
-    }) onward suits)
-
--- with the version that is seen written otherwise
-pub seen_so : (a : Asking) (x : Shared) (how : ℕ → Onward) (seen : ℕ) → seen ≡ length x.ops.ops
-    → Went a doing.Begun x x (how (length x.ops.ops)) → Went a doing.Begun x x (how seen)
-seen_so a x how seen is h = subst (λ (n : ℕ). Went a doing.Begun x x (how n)) (sym is) h
-
--- ---- a read
-
-read_first : (a : Asking) (file room : ℕ) → a.command ≡ command.Read file room → (w : World)
-    → first_kind w a.command ≡ event.Look
-read_first a file room is w = ap (λ (c : Command). first_kind w c) is
-
-read_row : (a : Asking) (x : Shared) (file room : ℕ) (o : Option Front) → IsHeld (setup a) x
-    → a.command ≡ command.Read file room → steer.shape_of x.ops.table file ≡ o
-    → (actors : List Actor) (said : List Said) (act : Actor)
-    → row (setup a) (world_in x actors said) event.Look a.actor act a.number a.command
-    ≡ Some (with_front o (world_in x actors said) (reads (world_in x actors said) file room))
-read_row a x file room o held is e actors said act =
-    let w = world_in x actors said in
-    ap (λ (c : Command). row (setup a) w event.Look a.actor act a.number c) is
-    ∙ ap (λ (t : Table). Some (with_front (steer.shape_of t file) w (reads w file room))) (sym held.table)
-    ∙ ap (λ (p : Option Front). Some (with_front p w (reads w file room))) e
-
-pub read_without : (a : Asking) (x : Shared) (file room : ℕ) → MayGo a doing.Begun x
-    → a.command ≡ command.Read file room → steer.shape_of x.ops.table file ≡ None
-    → Went a doing.Begun x x (on.Ends (length x.ops.ops) (answer.Tap EBADFD))
-read_without a x file room m is e =
-    looks_on a x (world.Onward.Ends (length x.ops.ops) (answer.Tap EBADFD)) _ m (read_first a file room is)
-    (read_row a x file room None m.1.held is e) refl tt
-
-read_if : (a : Asking) (x : Shared) (file room : ℕ) (shape : Shape) (b : Bool) → MayGo a doing.Begun x
-    → a.command ≡ command.Read file room → steer.shape_of x.ops.table file ≡ Some (front_of shape)
-    → nat_lt room (least_room shape) ≡ b
-    → (actors : List Actor) (said : List Said) (act : Actor)
-    → row (setup a) (world_in x actors said) event.Look a.actor act a.number a.command
-    ≡ Some (if b
-    then only (world.Onward.Ends (length x.ops.ops) (answer.Room (least_room shape))) (world_in x actors said)
-    else only (world.Onward.Goes (length x.ops.ops) (come.Doing.Reads file room (front_of shape))
-    (found.Version (length x.ops.ops))) (world_in x actors said))
-read_if a x file room shape b m is e small actors said act =
-    read_row a x file room (Some (front_of shape)) m.1.held is e actors said act
-    ∙ ap (λ (q : Bool). Some (if q
-    then only (world.Onward.Ends (length x.ops.ops) (answer.Room (least_room shape))) (world_in x actors said)
-    else only (world.Onward.Goes (length x.ops.ops) (come.Doing.Reads file room (front_of shape))
-    (found.Version (length x.ops.ops))) (world_in x actors said))) small
-
-pub read_small : (a : Asking) (x : Shared) (file room : ℕ) (shape : Shape) → MayGo a doing.Begun x
-    → a.command ≡ command.Read file room → steer.shape_of x.ops.table file ≡ Some (front_of shape)
-    → nat_lt room (least_room shape) ≡ true
-    → Went a doing.Begun x x (on.Ends (length x.ops.ops) (answer.Room (least_room shape)))
-read_small a x file room shape m is e small =
-    looks_on a x (world.Onward.Ends (length x.ops.ops) (answer.Room (least_room shape))) _ m
-    (read_first a file room is) (read_if a x file room shape true m is e small) refl tt
-
-pub read_goes : (a : Asking) (x : Shared) (file room : ℕ) (shape : Shape) → MayGo a doing.Begun x
-    → a.command ≡ command.Read file room → steer.shape_of x.ops.table file ≡ Some (front_of shape)
-    → nat_lt room (least_room shape) ≡ false
-    → Went a doing.Begun x x
-    (on.Goes (length x.ops.ops) (doing.Reads file room shape) (found.Version (length x.ops.ops)))
-read_goes a x file room shape m is e small =
-    looks_on a x (world.Onward.Goes (length x.ops.ops) (come.Doing.Reads file room (front_of shape))
-    (found.Version (length x.ops.ops))) _ m
-    (read_first a file room is) (read_if a x file room shape false m is e small) refl tt
+looks_on a x o how m first rows onward suits = (
+  event.Look,
+  done a doing.Begun event.Look x x how [] [] [] x.writer o (rests a x x.writer m.1.held) m.1.held
+      (record {
+        is_next = λ actors said. ap (λ (k : EventKind). Some k) (first (world_in x actors said));
+        is_row = λ actors said rest. rows actors said (actor_at a come.Doing.Begun rest);
+      }) onward suits,
+)
 
 -- ---- a write
 
@@ -135,13 +73,6 @@ write_row a x file bytes o held is e actors said act =
     ap (λ (c : Command). row (setup a) w event.Look a.actor act a.number c) is
     ∙ ap (λ (t : Table). Some (with_front (steer.shape_of t file) w (writes t w file bytes))) (sym held.table)
     ∙ ap (λ (p : Option Front). Some (with_front p w (writes x.ops.table w file bytes))) e
-
-pub write_without : (a : Asking) (x : Shared) (file : ℕ) (bytes : List ℕ) → MayGo a doing.Begun x
-    → a.command ≡ command.Write file bytes → steer.shape_of x.ops.table file ≡ None
-    → Went a doing.Begun x x (on.Ends (length x.ops.ops) (answer.Tap EBADFD))
-write_without a x file bytes m is e =
-    looks_on a x (world.Onward.Ends (length x.ops.ops) (answer.Tap EBADFD)) _ m (write_first a file bytes is)
-    (write_row a x file bytes None m.1.held is e) refl tt
 
 write_if : (a : Asking) (x : Shared) (file : ℕ) (bytes : List ℕ) (shape : Shape) (o : Option BadFrame)
     → MayGo a doing.Begun x → a.command ≡ command.Write file bytes
@@ -167,24 +98,6 @@ pub write_bad : (a : Asking) (x : Shared) (file : ℕ) (bytes : List ℕ) (shape
 write_bad a x file bytes shape bad m is e why =
     looks_on a x (world.Onward.Ends (length x.ops.ops) (answer.Bad bad)) _ m (write_first a file bytes is)
     (write_if a x file bytes shape (Some bad) m is e why) refl tt
-
-pub write_goes : (a : Asking) (x : Shared) (file : ℕ) (bytes : List ℕ) (shape : Shape) (frame : FrameValue) (learns : Bool)
-    → MayGo a doing.Begun x → a.command ≡ command.Write file bytes
-    → steer.shape_of x.ops.table file ≡ Some (front_of shape) → bad_in (front_of shape) bytes ≡ None
-    → frame.name ≡ name_of a.actor a.number → frame.made ≡ ether_in (front_of shape) bytes
-    → frame.mark ≡ length frame.made → learns ≡ steer.learns x.ops.table file
-    → Went a doing.Begun x x
-    (on.Goes (length x.ops.ops) (doing.Hosts file frame learns) (found.Version (length x.ops.ops)))
-write_goes a x file bytes shape frame learns m is e none named made whole learnt =
-    looks_on a x (world.Onward.Goes (length x.ops.ops)
-    (come.Doing.Hosts file (ether_in (front_of shape) bytes) (steer.learns x.ops.table file))
-    (found.Version (length x.ops.ops))) _ m (write_first a file bytes is)
-    (write_if a x file bytes shape None m is e none)
-    (ap (λ (l : List ℕ). world.Onward.Goes (length x.ops.ops) (come.Doing.Hosts file l (steer.learns x.ops.table file))
-    (found.Version (length x.ops.ops))) (sym made)
-    ∙ ap (λ (b : Bool). world.Onward.Goes (length x.ops.ops) (come.Doing.Hosts file frame.made b)
-    (found.Version (length x.ops.ops))) (sym learnt))
-    (record { name = named; whole = whole })
 
 -- ---- the same, as the code says it
 

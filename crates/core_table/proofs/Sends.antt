@@ -104,17 +104,18 @@ dropped : (a : Asking) (old new : Shared) (device : ℕ) (frame : FrameValue) (w
     ≡ Some (record (world.only (world.Onward.Ends (length old.ops.ops) (answer.Dropped None why)) (world_in old actors said)) { drops = name_of a.actor a.number ∷ [] }))
     → new ≡ record old { dropped = new.dropped } → new.dropped.items ≡ old.dropped.items ++ frame.name ∷ []
     → Went a doing.Begun old new (on.Ends (length old.ops.ops) (answer.Dropped None why))
-dropped a old new device frame why m s rows is names =
-    (event.Look,
-    done a doing.Begun event.Look old new (on.Ends (length old.ops.ops) (answer.Dropped None why)) []
-    [] (name_of a.actor a.number ∷ []) old.writer (world.Onward.Ends (length old.ops.ops) (answer.Dropped None why))
-    (rests_dropping a old new (name_of a.actor a.number) m.1.held is
-    (names ∙ ap (λ (n : Name). old.dropped.items ++ n ∷ []) (ap (λ (f : FrameValue). f.name) s.whole))) m.1.held
-    (record {
-      is_next = λ actors said. ap (λ (k : EventKind). Some k)
-          (send_first a device s.hdr s.bytes s.command (world_in old actors said));
-      is_row = λ actors said rest. rows actors said (actor_at a come.Doing.Begun rest);
-    }) refl tt)
+dropped a old new device frame why m s rows is names = (
+  event.Look,
+  done a doing.Begun event.Look old new (on.Ends (length old.ops.ops) (answer.Dropped None why)) []
+      [] (name_of a.actor a.number ∷ []) old.writer (world.Onward.Ends (length old.ops.ops) (answer.Dropped None why))
+      (rests_dropping a old new (name_of a.actor a.number) m.1.held is
+      (names ∙ ap (λ (n : Name). old.dropped.items ++ n ∷ []) (ap (λ (f : FrameValue). f.name) s.whole))) m.1.held
+      (record {
+        is_next = λ actors said. ap (λ (k : EventKind). Some k)
+            (send_first a device s.hdr s.bytes s.command (world_in old actors said));
+        is_row = λ actors said rest. rows actors said (actor_at a come.Doing.Begun rest);
+      }) refl tt,
+)
 
 pub drops_unqueued : (a : Asking) (old new : Shared) (device : ℕ) (frame : FrameValue) → MayGo a doing.Begun old
     → Sends a device frame → steer.select old.ops.table device frame.made ≡ select.NoQueue

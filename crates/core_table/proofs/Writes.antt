@@ -53,39 +53,6 @@ told_of : (a : Asking) (frame : FrameValue) → IsItsWritten a frame
     → answer.Host (length (bytes_of frame)) (fnv_of (bytes_of frame)) ≡ answer.Host (length frame.made) (fnv_of frame.made)
 told_of a frame w = ap (λ (l : List ℕ). answer.Host (length l) (fnv_of l)) (whole_bytes a frame w)
 
--- ---- the host gets it
-
-pub host_goes : (a : Asking) (old new : Shared) (file : ℕ) (frame : FrameValue) → MayGo a (doing.Hosts file frame true) old
-    → new ≡ record old { hosted = new.hosted } → new.hosted.items ≡ old.hosted.items ++ frame.name ∷ []
-    → Went a (doing.Hosts file frame true) old new (on.Goes a.seen (doing.Learns file frame) (found.Moved frame.name))
-host_goes a old new file frame m is names =
-    let its = m.1.suits in
-    (event.HostIn,
-    done a (doing.Hosts file frame true) event.HostIn old new
-    (on.Goes a.seen (doing.Learns file frame) (found.Moved frame.name)) [] (name_of a.actor a.number ∷ []) [] old.writer
-    (world.Onward.Goes a.seen (come.Doing.Learns file frame.made) (found.Moved (name_of a.actor a.number)))
-    (rests_hosting a old new (name_of a.actor a.number) m.1.held is
-    (names ∙ ap (λ (n : Name). old.hosted.items ++ n ∷ []) its.name)) m.1.held
-    (record { is_next = λ actors said. refl; is_row = λ actors said rest. refl })
-    (ap (λ (n : Name). world.Onward.Goes a.seen (come.Doing.Learns file frame.made) (found.Moved n)) (sym its.name))
-    its)
-
-pub host_ends : (a : Asking) (old new : Shared) (file : ℕ) (frame : FrameValue) → MayGo a (doing.Hosts file frame false) old
-    → new ≡ record old { hosted = new.hosted } → new.hosted.items ≡ old.hosted.items ++ frame.name ∷ []
-    → Went a (doing.Hosts file frame false) old new
-    (on.Ends a.seen (answer.Host (length (bytes_of frame)) (fnv_of (bytes_of frame))))
-host_ends a old new file frame m is names =
-    let its = m.1.suits in
-    subst (λ t. Went a (doing.Hosts file frame false) old new (on.Ends a.seen t)) (sym (told_of a frame its))
-    (event.HostIn,
-    done a (doing.Hosts file frame false) event.HostIn old new
-    (on.Ends a.seen (answer.Host (length frame.made) (fnv_of frame.made))) [] (name_of a.actor a.number ∷ []) [] old.writer
-    (world.Onward.Ends a.seen (answer.Host (length frame.made) (fnv_of frame.made)))
-    (rests_hosting a old new (name_of a.actor a.number) m.1.held is
-    (names ∙ ap (λ (n : Name). old.hosted.items ++ n ∷ []) its.name)) m.1.held
-    (record { is_next = λ actors said. refl; is_row = λ actors said rest. refl })
-    refl tt)
-
 -- ---- its flow is learnt
 
 if_none : (b : Bool) (r : Effect) → (if b then None else None) ≡ Some r → ⊥
@@ -139,18 +106,19 @@ learnt : (a : Asking) (x : Shared) (file : ℕ) (frame : FrameValue) → MayGo a
     (on.Ends (length x.ops.ops + 1) (answer.Host (length frame.made) (fnv_of frame.made)))
 learnt a x file frame m =
     let so_far = come.Doing.Learns file frame.made in
-    let y = op.Learn file (hash frame.made) in
-    (event.Publish,
-    done a (doing.Learns file frame) event.Publish x (publishing a x y x.writer)
-    (on.Ends (length x.ops.ops + 1) (answer.Host (length frame.made) (fnv_of frame.made))) (y ∷ []) [] [] x.writer
-    (world.Onward.Ends (length x.ops.ops + 1) (answer.Host (length frame.made) (fnv_of frame.made)))
-    (rests_publishing a x y x.writer m.1.held) m.1.held
-    (record {
-      is_next = λ actors said. refl;
-      is_row = λ actors said rest.
-          learn_rows a x file frame m (world_in x actors said)
-          ∙ ap (λ (b : Bool). only_if b (learns_flow (world_in x actors said) file frame.made)) (learn_free a x file frame m);
-    }) refl tt)
+    let y = op.Learn file (hash frame.made) in (
+      event.Publish,
+      done a (doing.Learns file frame) event.Publish x (publishing a x y x.writer)
+          (on.Ends (length x.ops.ops + 1) (answer.Host (length frame.made) (fnv_of frame.made))) (y ∷ []) [] [] x.writer
+          (world.Onward.Ends (length x.ops.ops + 1) (answer.Host (length frame.made) (fnv_of frame.made)))
+          (rests_publishing a x y x.writer m.1.held) m.1.held
+          (record {
+            is_next = λ actors said. refl;
+            is_row = λ actors said rest.
+                learn_rows a x file frame m (world_in x actors said)
+                ∙ ap (λ (b : Bool). only_if b (learns_flow (world_in x actors said) file frame.made)) (learn_free a x file frame m);
+          }) refl tt,
+    )
 
 -- it ends so, with the bytes that the frame has
 pub learn_ends : (a : Asking) (old new : Shared) (file version flow : ℕ) (frame : FrameValue) (how : Onward)

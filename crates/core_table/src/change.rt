@@ -74,11 +74,7 @@ fn course(table: &Steer, op: Op) -> Doing
 }
 
 /// A change of the table alone is published: the command ends with its version, and gives back the writer.
-pub fn publish_change(
-    shared: &mut Shared,
-    asked: &Asked<'_>,
-    op: Op,
-) -> Result<Onward, AllocError>
+pub fn publish_change(shared: &mut Shared, asked: &Asked<'_>, op: Op) -> Result<Onward, AllocError>
     requires may { MayGo asked.now (doing.Changes op) shared.old }
     ensures went { IfOk result (λ on. Went asked.now (doing.Changes op) shared.old shared.new on) }
 {

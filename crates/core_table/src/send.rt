@@ -46,12 +46,7 @@ pub fn begin_send(
 }
 
 // The frame of these bytes behind a header of ten bytes, or without one.
-fn sent(
-    alloc: Global,
-    name: Name,
-    hdr: Option<Hdr>,
-    bytes: &[u8],
-) -> Result<Frame, BadFrame>
+fn sent(alloc: Global, name: Name, hdr: Option<Hdr>, bytes: &[u8]) -> Result<Frame, BadFrame>
     ensures frame { IfOk result (λ frame. frame ≡ whole_frame name (sent_front hdr) (sent_bytes hdr bytes.now)) }
     ensures accepted { OnOk result (bad_in (sent_front hdr) (sent_bytes hdr bytes.now) ≡ None) }
     ensures refused { IfErr result (λ bad.

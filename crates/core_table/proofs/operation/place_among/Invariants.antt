@@ -1,4 +1,4 @@
-use Rattle.std.proofs.Common.{◌≡◌, ℕ, ◌+◌, length, drop}
+use Rattle.std.proofs.Common.{◌≡◌, ◌+◌, length, drop}
 use Rattle.tap_world.specs.Setup.{place_among}
 use Rattle.core_table.specs.Programs.{programs_in}
 use Rattle.core_table.proofs.operation.place_among.Given as goal

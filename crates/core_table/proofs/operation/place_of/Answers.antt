@@ -1,4 +1,4 @@
-use Rattle.std.proofs.Common.{◌≡◌, ap, ◌∙◌}
+use Rattle.std.proofs.Common.{ap, ◌∙◌}
 use Rattle.scen_text.specs.declared.scenario.Scenario.{Scenario}
 use Rattle.core_table.proofs.Programs as lemmas
 use Rattle.core_table.proofs.operation.place_of.Goals as goal
