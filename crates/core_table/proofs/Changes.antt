@@ -1,12 +1,11 @@
 -- The look of a command with an operation, and the publication of that operation.
 use Rattle.std.proofs.Common.{◌≡◌, ℕ, ◌+◌, List, [], ◌∷◌, length, Bool, true, false, Option, Some, None, refl, sym, ap, ◌∙◌, subst, true≢false}
-use Rattle.std.specs.Prelude.{◌&&◌, ◌==◌, if◌then◌else◌, is_none, IfOk, OnOk, Result, Ok, Err}
-use Rattle.std.specs.Option.{option_map_or}
+use Rattle.std.specs.Prelude.{◌&&◌, if◌then◌else◌, is_none, IfOk, OnOk, Result, Ok, Err}
 use Rattle.scen_words.specs.declared.command.Command.{Command}
 use Rattle.scen_words.specs.declared.command.Command.TheVariants as command
 use Rattle.tap_guests.specs.Side.{Side}
 use Rattle.tap_ledger.specs.declared.error.TapErr.{TapErr}
-use Rattle.tap_lines.specs.Told.{Told, told_more}
+use Rattle.tap_lines.specs.Told.{told_more}
 use Rattle.tap_steer.specs.declared.operation.Op.{Op}
 use Rattle.tap_steer.specs.declared.operation.Op.TheVariants as op
 use Rattle.tap_steer.specs.declared.operation.TheConstants.{IFF_ATTACH_QUEUE}
@@ -30,9 +29,9 @@ use Rattle.tap_world.specs.World.{Actor, World, holds_writer, table}
 use Rattle.tap_sound.proofs.Kit.{only_some, some_same}
 use Rattle.core_shared.specs.Asking.{Asking, setup}
 use Rattle.core_shared.specs.Coming.{come_of, onward_of, written_out}
-use Rattle.core_shared.specs.Did.{HasEffect, Went}
+use Rattle.core_shared.specs.Did.{Went}
 use Rattle.core_shared.specs.Held.{IsHeld}
-use Rattle.core_shared.specs.MayDo.{MayDo, MayGo, actor_at}
+use Rattle.core_shared.specs.MayDo.{MayGo, actor_at}
 use Rattle.core_shared.specs.Suiting.{IsItsOp, Suits, SuitsOn}
 use Rattle.core_shared.specs.Worlds.{world_in}
 use Rattle.core_shared.specs.declared.doing.Doing.{Doing}

@@ -1,16 +1,13 @@
 -- A look that leaves all as it is; and that of a write of bytes that are no frame.
-use Rattle.std.proofs.Common.{◌≡◌, ◌≢◌, ℕ, List, [], ◌∷◌, length, Bool, true, false, Option, Some, None, refl, sym, ap, ◌∙◌, subst}
-use Rattle.std.specs.Prelude.{if◌then◌else◌, nat_lt, option_map, IfOk, OnOk, Result, Ok, Err}
+use Rattle.std.proofs.Common.{◌≡◌, ◌≢◌, ℕ, List, [], length, Option, Some, None, refl, sym, ap, ◌∙◌, subst}
+use Rattle.std.specs.Prelude.{option_map, IfOk, OnOk, Result, Ok, Err}
 use Rattle.scen_words.specs.declared.command.Command.{Command}
 use Rattle.scen_words.specs.declared.command.Command.TheVariants as command
-use Rattle.tap_frame.specs.Frame.{FrameValue}
 use Rattle.tap_frame.specs.Spelling.{Refuses, first_case}
-use Rattle.tap_frame.specs.Text.{least_room}
 use Rattle.tap_frame.specs.declared.reading.BadFrame.{BadFrame}
 use Rattle.tap_frame.specs.declared.reading.BadFrame.TheVariants.{NoMemory}
 use Rattle.tap_frame.specs.declared.shape.Shape.{Shape}
 use Rattle.tap_guests.specs.Backs.{front_of}
-use Rattle.tap_ledger.specs.declared.error.TapErr.TheVariants.{EBADFD}
 use Rattle.tap_steer.specs.Select as steer
 use Rattle.tap_steer.specs.Table.{Table}
 use Rattle.tap_trace.specs.declared.answer.Answer.TheVariants as answer
@@ -22,9 +19,8 @@ use Rattle.tap_world.specs.Effect as world
 use Rattle.tap_world.specs.Effect.{Effect, only}
 use Rattle.tap_world.specs.Frames.{Front, bad_in, ether_in}
 use Rattle.tap_world.specs.Scripts.{first_kind}
-use Rattle.tap_world.specs.Setup.{Setup}
 use Rattle.tap_world.specs.Step.{row}
-use Rattle.tap_world.specs.StepTable.{reads, unless_bad, with_front, writes}
+use Rattle.tap_world.specs.StepTable.{unless_bad, with_front, writes}
 use Rattle.tap_world.specs.World as come
 use Rattle.tap_world.specs.World.{Actor, World, name_of}
 use Rattle.core_shared.specs.Asking.{Asking, setup}

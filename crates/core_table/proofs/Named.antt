@@ -1,5 +1,5 @@
 -- What a command names is there in the table of queues.
-use Rattle.std.proofs.Common.{◌≡◌, ℕ, ◌<◌, ◌≤◌, length, Some, None, sym, subst, arith}
+use Rattle.std.proofs.Common.{◌≡◌, ℕ, ◌<◌, length, Some, None, sym, subst, arith}
 use Rattle.scen_words.specs.Commands.{file_of}
 use Rattle.tap_steer.specs.Named.{IsFile}
 use Rattle.tap_steer.specs.Table.{Table}

@@ -1,5 +1,5 @@
 -- An event that changes the table, the names of frames and the writer alone.
-use Rattle.std.proofs.Common.{◌≡◌, ℕ, List, [], ◌∷◌, ◌++◌, map, Option, Some, None, refl, sym, ap, ◌∙◌, subst}
+use Rattle.std.proofs.Common.{◌≡◌, ℕ, List, [], ◌∷◌, ◌++◌, map, Option, Some, refl, sym, ap, ◌∙◌, subst}
 use Rattle.std.specs.Prelude.{IfSome, slice_get}
 use Rattle.core_shared.proofs.Leaving.{no_more, table_more, turns_same}
 use Rattle.tap_frame.specs.declared.name.Name.{Name}
@@ -10,11 +10,8 @@ use Rattle.tap_lines.specs.Files.{files_of}
 use Rattle.tap_lines.specs.Placed.{Placed}
 use Rattle.tap_lines.specs.Told.{BeganAt, Told, told_more}
 use Rattle.tap_steer.specs.declared.operation.Op.{Op}
-use Rattle.tap_steer.specs.After.{after, after_all}
-use Rattle.tap_steer.specs.Table.{Table}
 use Rattle.tap_world.specs.ByNumber.{at}
 use Rattle.tap_world.specs.declared.event.EventKind.{EventKind}
-use Rattle.tap_world.specs.declared.told.Published.{Published}
 use Rattle.tap_world.specs.Effect as world
 use Rattle.tap_world.specs.Effect.{Effect}
 use Rattle.tap_world.specs.Effect.OnFiles.{NoFile}

@@ -1,14 +1,11 @@
 -- A frame that is written: the host gets it, and its flow is learnt.
-use Rattle.std.proofs.Common.{◌≡◌, ℕ, ◌+◌, List, [], ◌∷◌, ◌++◌, length, take, Bool, true, false, Option, Some, None, refl, sym, ap, ◌∙◌, subst}
+use Rattle.std.proofs.Common.{◌≡◌, ℕ, ◌+◌, List, [], ◌∷◌, length, take, Bool, true, false, Some, None, refl, sym, ap, ◌∙◌, subst}
 use Rattle.std.specs.Prelude.{if◌then◌else◌, is_none}
 use Rattle.scen_words.specs.declared.command.Command.{Command}
 use Rattle.scen_words.specs.declared.command.Command.TheVariants as command
 use Rattle.tap_flow_key.specs.Fnv.{fnv_of}
 use Rattle.tap_flow_key.specs.FlowKey.{hash}
 use Rattle.tap_frame.specs.Frame.{FrameValue, bytes_of}
-use Rattle.tap_frame.specs.declared.name.Name.{Name}
-use Rattle.tap_lines.specs.Told.{told_more}
-use Rattle.tap_steer.specs.declared.operation.Op.{Op}
 use Rattle.tap_steer.specs.declared.operation.Op.TheVariants as op
 use Rattle.tap_steer.specs.Named.{IsNamed}
 use Rattle.tap_steer.specs.Rules.{refuse}
@@ -17,8 +14,6 @@ use Rattle.tap_trace.specs.declared.answer.Answer.TheVariants as answer
 use Rattle.tap_ground.specs.Options.{only_if}
 use Rattle.tap_world.specs.declared.event.EventKind.{EventKind}
 use Rattle.tap_world.specs.declared.event.EventKind.TheVariants as event
-use Rattle.tap_world.specs.declared.event.Found.TheVariants as found
-use Rattle.tap_world.specs.declared.told.Said.{Said}
 use Rattle.tap_world.specs.Effect as world
 use Rattle.tap_world.specs.Effect.{Effect}
 use Rattle.tap_world.specs.Setup.{Setup}
@@ -38,7 +33,7 @@ use Rattle.core_shared.specs.declared.onward.Onward.TheVariants as on
 use Rattle.core_shared.specs.declared.shared.Shared.{Shared}
 use Rattle.core_table.proofs.Changes.{kind_is, publishing}
 use Rattle.core_table.proofs.Named.{about_file, none_some}
-use Rattle.core_table.proofs.Rested.{done, rests_hosting, rests_publishing}
+use Rattle.core_table.proofs.Rested.{done, rests_publishing}
 
 take_all : (xs : List ℕ) → take (length xs) xs ≡ xs
 take_all [] = refl

@@ -1,4 +1,4 @@
-use Rattle.std.proofs.Common.{ℕ, ◌+◌, length, None}
+use Rattle.std.proofs.Common.{◌+◌, length, None}
 use Rattle.core_shared.specs.Did.{Went}
 use Rattle.core_shared.specs.declared.doing.Doing.TheVariants as doing
 use Rattle.core_shared.specs.declared.onward.Onward.TheVariants as on

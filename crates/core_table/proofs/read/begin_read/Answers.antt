@@ -2,7 +2,6 @@ use Rattle.std.proofs.Common.{ap}
 use Rattle.scen_words.specs.Commands.{file_of}
 use Rattle.scen_words.specs.declared.command.Command.{Command}
 use Rattle.core_shared.specs.declared.doing.Doing.TheVariants as doing
-use Rattle.core_table.proofs.Looks as lemmas
 use Rattle.core_table.proofs.Named as named
 use Rattle.core_table.proofs.read.begin_read.Goals as goal
 

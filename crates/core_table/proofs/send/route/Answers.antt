@@ -1,8 +1,6 @@
 use Rattle.std.proofs.Common.{ap}
 use Rattle.scen_words.specs.declared.command.Command.{Command}
-use Rattle.tap_ledger.specs.declared.fate.Cause.TheVariants as cause
 use Rattle.tap_world.specs.Setup.{device_in}
-use Rattle.core_shared.specs.Did.{Went}
 use Rattle.core_shared.specs.declared.doing.Doing.TheVariants as doing
 use Rattle.core_table.proofs.Named as named
 use Rattle.core_table.proofs.Sends as lemmas
