@@ -41,6 +41,7 @@ use Rattle.core_shared.specs.declared.onward.Onward.TheVariants as on
 use Rattle.core_shared.specs.declared.shared.Shared.{Shared}
 use Rattle.core_table.specs.Course.{course_of}
 use Rattle.core_table.proofs.Named.{none_some}
+use Rattle.core_shared.proofs.Knowing.{may_do}
 use Rattle.core_shared.proofs.Named.{named_own}
 use Rattle.core_table.proofs.Rested.{done, effect_with, rests, rests_publishing}
 
@@ -90,11 +91,6 @@ op_published s w actor d c x e = none_some x e
 
 -- ---- its look
 
--- an event that may be done is of the kind that is next
-pub kind_is : (a : Asking) (d : Doing) (x : Shared) (m : MayGo a d x) (kind : EventKind)
-    → next_kind (world_in x m.1.actors m.1.said) (come_of x.vhosts d) a.command ≡ Some kind → kind ≡ m.0
-kind_is a d x m kind e = some_same kind m.0 (sym e ∙ m.1.event.is_next)
-
 looks_in : (a : Asking) (x : Shared) (actors : List Actor) (said : List Said) (act : Actor) (y : Op) → IsHeld (setup a) x
     → IsItsOp a y
     → row (setup a) (world_in x actors said) event.Look a.actor act a.number a.command
@@ -103,17 +99,18 @@ looks_in a x actors said act y held is =
     op_looked (setup a) (world_in x actors said) a.actor act a.number a.command y is
     ∙ ap (λ (t : Table). looks_to_change t (world_in x actors said) a.actor y) (sym held.table)
 
+next_look : (a : Asking) (x : Shared) (y : Op) → IsItsOp a y → (actors : List Actor) (said : List Said)
+    → next_kind (world_in x actors said) come.Doing.Begun a.command ≡ Some event.Look
+next_look a x y is actors said =
+    ap (λ (k : EventKind). Some k) (look_is (world_in x actors said) (setup a) a.command y is)
+
 -- nobody holds the writer
 free_writer : (a : Asking) (x : Shared) (y : Op) → MayGo a doing.Begun x → IsItsOp a y → is_none x.writer ≡ true
-free_writer a x y m is =
-    let may = m.1 in
-    let w = world_in x may.actors may.said in
-    let act = actor_at a come.Doing.Begun may.rest in
-    let kind : event.Look ≡ m.0 = kind_is a doing.Begun x m event.Look (ap (λ (k : EventKind). Some k) (look_is w (setup a) a.command y is)) in
-    let looks : row (setup a) w event.Look a.actor act a.number a.command ≡ Some may.event.effect =
-    ap (λ (k : EventKind). row (setup a) w k a.actor act a.number a.command) kind ∙ may.event.is_row in
-    (only_some (is_none x.writer) (decided w a.actor (course x.ops.table y) (refuse x.ops.table y)) may.event.effect
-    (sym (looks_in a x may.actors may.said act y may.held is) ∙ looks)).0
+free_writer a x y go is =
+    let m = may_do go event.Look (next_look a x y is) in
+    (only_some (is_none x.writer)
+    (decided (world_in x m.actors m.said) a.actor (course x.ops.table y) (refuse x.ops.table y)) m.event.effect
+    (sym (looks_in a x m.actors m.said (actor_at a come.Doing.Begun m.rest) y m.held is) ∙ m.event.is_row)).0
 
 decides : (a : Asking) (x : Shared) (y : Op) (o : Option TapErr) → MayGo a doing.Begun x → IsItsOp a y
     → refuse x.ops.table y ≡ o
@@ -125,11 +122,6 @@ decides a x y o m is e actors said rest =
     looks_in a x actors said (actor_at a come.Doing.Begun rest) y m.1.held is
     ∙ ap (λ (b : Bool). only_if b (decided w a.actor (course x.ops.table y) (refuse x.ops.table y))) (free_writer a x y m is)
     ∙ ap (λ (q : Option TapErr). Some (decided w a.actor (course x.ops.table y) q)) e
-
-next_look : (a : Asking) (x : Shared) (y : Op) → IsItsOp a y → (actors : List Actor) (said : List Said)
-    → next_kind (world_in x actors said) come.Doing.Begun a.command ≡ Some event.Look
-next_look a x y is actors said =
-    ap (λ (k : EventKind). Some k) (look_is (world_in x actors said) (setup a) a.command y is)
 
 pub look_refused : (a : Asking) (x : Shared) (y : Op) (refusal : TapErr) → MayGo a doing.Begun x → IsItsOp a y
     → refuse x.ops.table y ≡ Some refusal
@@ -240,18 +232,12 @@ if_some : (b : Bool) (o : Option Effect) (r : Effect) → (if b then o else None
 if_some true o r e = refl
 if_some false o r e = none_some r e
 
-holds_it : (a : Asking) (x : Shared) (d : Doing) (y : Op) (m : MayGo a d x) → IsItsOp a y
-    → IsToPublish (come_of x.vhosts d)
-    → holds_writer (world_in x m.1.actors m.1.said) a.actor && is_none (refuse x.ops.table y) ≡ true
-holds_it a x d y m is to =
-    let may = m.1 in
-    let w = world_in x may.actors may.said in
-    let so_far = come_of x.vhosts d in
-    let kind : event.Publish ≡ m.0 = kind_is a d x m event.Publish (to.next w a.command) in
-    let publishes : row (setup a) w event.Publish a.actor (actor_at a so_far may.rest) a.number a.command ≡ Some may.event.effect =
-    ap (λ (q : EventKind). row (setup a) w q a.actor (actor_at a so_far may.rest) a.number a.command) kind ∙ may.event.is_row in
-    if_some _ (publishes_own w y so_far) may.event.effect
-    (sym (publishes_in a x so_far may.actors may.said y may.held is to) ∙ publishes)
+holds_it : (a : Asking) (x : Shared) (d : Doing) (y : Op) → MayGo a d x → IsItsOp a y → IsToPublish (come_of x.vhosts d)
+    → holds_writer (world_in x [] []) a.actor && is_none (refuse x.ops.table y) ≡ true
+holds_it a x d y go is to =
+    let m = may_do go event.Publish (λ actors said. to.next (world_in x actors said) a.command) in
+    if_some _ (publishes_own (world_in x m.actors m.said) y (come_of x.vhosts d)) m.event.effect
+    (sym (publishes_in a x (come_of x.vhosts d) m.actors m.said y m.held is to) ∙ m.event.is_row)
 
 both_true : (b c : Bool) → b && c ≡ true → c ≡ true
 both_true true c e = e

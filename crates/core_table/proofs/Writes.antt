@@ -12,26 +12,26 @@ use Rattle.tap_steer.specs.Rules.{refuse}
 use Rattle.tap_steer.specs.Table.{Table}
 use Rattle.tap_trace.specs.declared.answer.Answer.TheVariants as answer
 use Rattle.tap_ground.specs.Options.{only_if}
-use Rattle.tap_world.specs.declared.event.EventKind.{EventKind}
 use Rattle.tap_world.specs.declared.event.EventKind.TheVariants as event
 use Rattle.tap_world.specs.Effect as world
 use Rattle.tap_world.specs.Effect.{Effect}
 use Rattle.tap_world.specs.Setup.{Setup}
-use Rattle.tap_world.specs.Step.{publish_row, row}
+use Rattle.tap_world.specs.Step.{publish_row}
 use Rattle.tap_world.specs.StepTable.{learns_flow}
 use Rattle.tap_world.specs.World as come
 use Rattle.tap_world.specs.World.{Actor, World, holds_writer, name_of}
 use Rattle.tap_sound.proofs.Kit.{only_some}
 use Rattle.core_shared.specs.Asking.{Asking, setup}
 use Rattle.core_shared.specs.Did.{Went}
-use Rattle.core_shared.specs.MayDo.{MayGo, actor_at}
+use Rattle.core_shared.specs.MayDo.{MayDo, MayGo}
+use Rattle.core_shared.proofs.Knowing.{may_do}
 use Rattle.core_shared.specs.Suiting.{IsItsWritten}
 use Rattle.core_shared.specs.Worlds.{world_in}
 use Rattle.core_shared.specs.declared.doing.Doing.TheVariants as doing
 use Rattle.core_shared.specs.declared.onward.Onward.{Onward}
 use Rattle.core_shared.specs.declared.onward.Onward.TheVariants as on
 use Rattle.core_shared.specs.declared.shared.Shared.{Shared}
-use Rattle.core_table.proofs.Changes.{kind_is, publishing}
+use Rattle.core_table.proofs.Changes.{publishing}
 use Rattle.core_table.proofs.Named.{about_file, none_some}
 use Rattle.core_table.proofs.Rested.{done, rests_publishing}
 
@@ -62,30 +62,26 @@ learn_row s w v actor file ether (command.Backend vhost ring o) r e = absurd (if
 learn_row s w v actor file ether (command.TxTurn vhost) r e = none_some r e
 learn_row s w v actor file ether c r e = refl
 
--- nobody holds the writer
-learn_free : (a : Asking) (x : Shared) (file : ℕ) (frame : FrameValue) → MayGo a (doing.Learns file frame) x
-    → is_none x.writer ≡ true
-learn_free a x file frame m =
-    let may = m.1 in
-    let w = world_in x may.actors may.said in
-    let so_far = come.Doing.Learns file frame.made in
-    let kind : event.Publish ≡ m.0 = kind_is a (doing.Learns file frame) x m event.Publish refl in
-    let is : publish_row (setup a) w a.actor so_far a.command ≡ Some may.event.effect =
-    ap (λ (q : EventKind). row (setup a) w q a.actor (actor_at a so_far may.rest) a.number a.command) kind ∙ may.event.is_row in
-    (only_some (is_none x.writer) (learns_flow w file frame.made) may.event.effect
-    (sym (learn_row (setup a) w w a.actor file frame.made a.command may.event.effect is) ∙ is)).0
+learn_may : (a : Asking) (x : Shared) (file : ℕ) (frame : FrameValue) → MayGo a (doing.Learns file frame) x
+    → MayDo a (doing.Learns file frame) event.Publish x
+learn_may a x file frame go = may_do go event.Publish (λ actors said. refl)
 
-learn_rows : (a : Asking) (x : Shared) (file : ℕ) (frame : FrameValue) (m : MayGo a (doing.Learns file frame) x)
+learn_rows : (a : Asking) (x : Shared) (file : ℕ) (frame : FrameValue) → MayGo a (doing.Learns file frame) x
     → (v : World)
     → publish_row (setup a) v a.actor (come.Doing.Learns file frame.made) a.command
     ≡ only_if (is_none v.writer) (learns_flow v file frame.made)
-learn_rows a x file frame m v =
-    let may = m.1 in
-    let w = world_in x may.actors may.said in
-    let so_far = come.Doing.Learns file frame.made in
-    let kind : event.Publish ≡ m.0 = kind_is a (doing.Learns file frame) x m event.Publish refl in
-    learn_row (setup a) w v a.actor file frame.made a.command may.event.effect
-    (ap (λ (q : EventKind). row (setup a) w q a.actor (actor_at a so_far may.rest) a.number a.command) kind ∙ may.event.is_row)
+learn_rows a x file frame go v =
+    let m = learn_may a x file frame go in
+    learn_row (setup a) (world_in x m.actors m.said) v a.actor file frame.made a.command m.event.effect m.event.is_row
+
+-- nobody holds the writer
+learn_free : (a : Asking) (x : Shared) (file : ℕ) (frame : FrameValue) → MayGo a (doing.Learns file frame) x
+    → is_none x.writer ≡ true
+learn_free a x file frame go =
+    let m = learn_may a x file frame go in
+    let w = world_in x m.actors m.said in
+    (only_some (is_none x.writer) (learns_flow w file frame.made) m.event.effect
+    (sym (learn_rows a x file frame go w) ∙ m.event.is_row)).0
 
 -- a learning names a file of the table, and is never refused
 pub learn_named : (a : Asking) (x : Shared) (file flow : ℕ) (frame : FrameValue) → MayGo a (doing.Learns file frame) x

@@ -74,6 +74,10 @@ fn course(table: &Steer, op: Op) -> Doing
 }
 
 /// A change of the table alone is published: the command ends with its version, and gives back the writer.
+///
+/// # Errors
+///
+/// Only where memory runs out.
 pub fn publish_change(shared: &mut Shared, asked: &Asked<'_>, op: Op) -> Result<Onward, AllocError>
     requires may { MayGo asked.now (doing.Changes op) shared.old }
     ensures went { IfOk result (λ on. Went asked.now (doing.Changes op) shared.old shared.new on) }
@@ -82,6 +86,10 @@ pub fn publish_change(shared: &mut Shared, asked: &Asked<'_>, op: Op) -> Result<
 }
 
 /// An attach whose gate is open is published: the command ends with its version, and gives back the writer.
+///
+/// # Errors
+///
+/// Only where memory runs out.
 pub fn publish_attach(
     shared: &mut Shared,
     asked: &Asked<'_>,
@@ -115,6 +123,10 @@ fn publish_last(shared: &mut Shared, asked: &Asked<'_>, op: Op) -> Result<Onward
 }
 
 /// A detach is published; next its gate is shut.
+///
+/// # Errors
+///
+/// Only where memory runs out.
 pub fn publish_detach(
     shared: &mut Shared,
     asked: &Asked<'_>,
