@@ -119,21 +119,6 @@ rests a x writer held = record {
   phase = refl;
 }
 
-pub rests_hosting : (a : Asking) (old new : Shared) (name : Name) → IsHeld (setup a) old
-    → new ≡ record old { hosted = new.hosted } → new.hosted.items ≡ old.hosted.items ++ name ∷ []
-    → Rests a [] (name ∷ []) [] old.writer old new
-rests_hosting a old new name held is names = record {
-  ops = ap (λ (x : Shared). x.ops.ops) is ∙ no_more old.ops.ops;
-  table = subst (λ (t : Told). BeganAt (opening_table (setup a)) t) (sym (ap (λ (x : Shared). x.ops) is)) held.table;
-  files = ap (λ (x : Shared). x.files) is;
-  guests = ap (λ (x : Shared). x.guests) is;
-  vhosts = ap (λ (x : Shared). x.vhosts) is;
-  hosted = names;
-  dropped = ap (λ (x : Shared). x.dropped.items) is ∙ no_more old.dropped.items;
-  writer = ap (λ (x : Shared). x.writer) is;
-  phase = ap (λ (x : Shared). x.phase) is;
-}
-
 pub rests_dropping : (a : Asking) (old new : Shared) (name : Name) → IsHeld (setup a) old
     → new ≡ record old { dropped = new.dropped } → new.dropped.items ≡ old.dropped.items ++ name ∷ []
     → Rests a [] [] (name ∷ []) old.writer old new

@@ -75,7 +75,7 @@ send_bad a x device hdr bytes bad m is e =
 
 -- ---- the frame
 
-take_all : (xs : List ℕ) → take (length xs) xs ≡ xs
+pub take_all : (xs : List ℕ) → take (length xs) xs ≡ xs
 take_all [] = refl
 take_all (x ∷ xs) = ap (λ (l : List ℕ). x ∷ l) (take_all xs)
 

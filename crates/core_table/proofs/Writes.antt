@@ -32,12 +32,9 @@ use Rattle.core_shared.specs.declared.onward.Onward.{Onward}
 use Rattle.core_shared.specs.declared.onward.Onward.TheVariants as on
 use Rattle.core_shared.specs.declared.shared.Shared.{Shared}
 use Rattle.core_table.proofs.Changes.{publishing}
+use Rattle.core_table.proofs.Sends.{take_all}
 use Rattle.core_table.proofs.Named.{about_file, none_some}
 use Rattle.core_table.proofs.Rested.{done, rests_publishing}
-
-take_all : (xs : List ℕ) → take (length xs) xs ≡ xs
-take_all [] = refl
-take_all (x ∷ xs) = ap (λ (l : List ℕ). x ∷ l) (take_all xs)
 
 -- all its bytes
 whole_bytes : (a : Asking) (frame : FrameValue) → IsItsWritten a frame → bytes_of frame ≡ frame.made
