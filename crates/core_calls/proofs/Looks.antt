@@ -111,10 +111,7 @@ module _ {a : Asking} {kind₀ : EventKind} {x : Shared} (m : MayDo a doing.Begu
     (file : Option ℕ) (v : Side) (cmd : a.command ≡ command.Backend vhost ring file) (is : at x.vhosts vhost ≡ Some v)
     (free : is_open x.writer ring v.vhost ≡ true) (none : IsUnserved ring v)
   where
-    -- the vhosts after it
-    held_vhosts : Bool → List (Option Side)
-    held_vhosts b = if b then turned vhost ring (Some a.actor) x.vhosts else x.vhosts
-
+    -- the vhosts after it, with the turn held or as they were
     are_vhosts : (b : Bool)
         → with_at vhost (if b then with_turn ring (Some a.actor) v.vhost else v.vhost) (vhosts_of x.vhosts)
         ≡ vhosts_of (if b then turned vhost ring (Some a.actor) x.vhosts else x.vhosts)
