@@ -1,0 +1,92 @@
+//! The operations on the queue table.
+
+ghost use Rattle.std.specs.Prelude.{◌≡◌, ◌<◌, IfOk, OnOk, map, length, option_to_list};
+ghost use Rattle.std.specs.List.{AllByRecursion};
+ghost use Rattle.tap_world.specs.Project.{op_line, with_versions, words_of};
+ghost use Rattle.tap_world.specs.Setup.{setup_of};
+ghost use Rattle.tap_told.specs.Phases.{commands_of, op_told, ops_told};
+ghost use Rattle.tap_told.specs.Told.{HasDevice};
+
+use crate::commands::command_at;
+use crate::open_part::{OpenPart, tell_op};
+use scen_text::{Command, Scenario};
+use std::alloc::{AllocError, Global};
+use tap_steer::Op;
+use tap_trace::{OpLine, OpText};
+use tap_world::Published;
+
+// The words of an operation: its own, the name of its device, or those of its command.
+fn words_of(
+    alloc: Global,
+    scenario: &Scenario,
+    command: &Command,
+    published: &Published,
+) -> Result<OpText, AllocError>
+    requires { HasDevice scenario.now.names published.now }
+    ensures { IfOk result (λ text. text ≡ words_of (setup_of scenario.now) command.now published.now.op) }
+{
+    Ok(match published.op {
+        Op::SetIff {
+            file,
+            device,
+            flags,
+        } => OpText::SetIff {
+            file,
+            name: scenario.names.as_slice()[usize::from(device)].duplicate(),
+            flags,
+        },
+        Op::Learn { file, hash } => OpText::Learn { file, hash },
+        Op::Back { file, side, vhost } => OpText::Back { file, side, vhost },
+        Op::SetQueue { .. }
+        | Op::Shut { .. }
+        | Op::HdrSize { .. }
+        | Op::Persist { .. }
+        | Op::Tick { .. }
+        | Op::Steering { .. }
+        | Op::Filter { .. }
+        | Op::Resize { .. } => OpText::Words(command.duplicate(alloc)?),
+    })
+}
+
+// The line of the operation that made a version, where its command is one of the scenario's.
+fn op_line(
+    alloc: Global,
+    scenario: &Scenario,
+    commands: &[&Command],
+    version: u64,
+    published: &Published,
+) -> Result<Option<OpLine>, AllocError>
+    requires commands { map (λ c. c.now) commands.now ≡ commands_of scenario.now.phases }
+    requires device { HasDevice scenario.now.names published.now }
+    ensures { IfOk result (λ line. line ≡ op_line (setup_of scenario.now) (version, published.now)) }
+{
+    match command_at(commands, published.command) {
+        Some(command) => Ok(Some(OpLine {
+            version,
+            command: published.command,
+            text: words_of(alloc, scenario, command, published)?,
+        })),
+        None => Ok(None),
+    }
+}
+
+/// Tells each operation in the part of its phase.
+pub(crate) fn tell_ops(
+    alloc: Global,
+    parts: &mut [OpenPart],
+    scenario: &Scenario,
+    commands: &[&Command],
+    ops: &[Published],
+) -> Result<(), AllocError>
+    requires commands { map (λ c. c.now) commands.now ≡ commands_of scenario.now.phases }
+    requires devices { AllByRecursion (HasDevice scenario.now.names) ops.now }
+    ensures { OnOk result (parts.new ≡ ops_told (setup_of scenario.now) parts.old (with_versions 1 ops.now)) }
+{
+    for (index, published) in ops.iter().enumerate() {
+        let version = index as u64 + 1;
+        if let Some(line) = op_line(alloc, scenario, commands, version, published)? {
+            tell_op(parts, published.phase, line)?;
+        }
+    }
+    Ok(())
+}
