@@ -1,3 +1,5 @@
+pub mod Devices
 pub mod Told
 pub mod Phases
 pub mod Laws
+pub mod Needs

@@ -9,7 +9,8 @@ use Rattle.tap_trace.specs.declared.trace.OpLine.{OpLine}
 use Rattle.tap_trace.specs.declared.trace.PhasePart.{PhasePart}
 use Rattle.tap_world.specs.Project.{op_line}
 use Rattle.tap_world.specs.Setup.{Setup}
-use Rattle.tap_world.specs.World.{Published, Said}
+use Rattle.tap_world.specs.declared.told.Published.{Published}
+use Rattle.tap_world.specs.declared.told.Said.{Said}
 
 -- the commands of phases, in the order of their numbers
 abbrev pub commands_of : List Phase → List Command

@@ -24,6 +24,18 @@ fn fate_of(stands: Standing) -> Fate
     }
 }
 
+fn place_line(place: u64, entry: &Entry) -> PlaceLine
+    ensures { result ∷ [] ≡ place_lines place (entry.now ∷ []) }
+{
+    PlaceLine {
+        place,
+        epoch: entry.epoch,
+        name: entry.name,
+        len: entry.len,
+        fate: fate_of(entry.stands),
+    }
+}
+
 // The entries of a line whose first place is this one.
 fn place_lines(
     alloc: Global,
@@ -35,13 +47,7 @@ fn place_lines(
 {
     let mut lines = Items::new(alloc);
     for (index, entry) in line.iter().enumerate() {
-        lines.push(PlaceLine {
-            place: first + index as u64,
-            epoch: entry.epoch,
-            name: entry.name,
-            len: entry.len,
-            fate: fate_of(entry.stands),
-        })?;
+        lines.push(place_line(first + index as u64, entry))?;
     }
     Ok(lines)
 }

@@ -84,18 +84,20 @@ pub(crate) fn tell_op(
 ) -> Result<(), AllocError>
     ensures { OnOk result (parts.new ≡ changed_from 0 phase (with_ops (line ∷ [])) parts.old) }
 {
-    match parts.get_mut(phase as usize) {
-        Some(part) => part.push_op(line),
-        None => Ok(()),
+    let index = phase as usize;
+    if index < parts.len() {
+        parts[index].push_op(line)?;
     }
+    Ok(())
 }
 
 /// Tells an answer in the part of its phase, where there is such a phase.
 pub(crate) fn tell_answer(parts: &mut [OpenPart], said: Said) -> Result<(), AllocError>
     ensures { OnOk result (parts.new ≡ answer_told parts.old said) }
 {
-    match parts.get_mut(said.phase as usize) {
-        Some(part) => part.push_answer(said.line),
-        None => Ok(()),
+    let index = said.phase as usize;
+    if index < parts.len() {
+        parts[index].push_answer(said.line)?;
     }
+    Ok(())
 }

@@ -5,7 +5,7 @@ ghost use Rattle.std.specs.List.{AllByRecursion};
 ghost use Rattle.tap_world.specs.Project.{op_line, with_versions, words_of};
 ghost use Rattle.tap_world.specs.Setup.{setup_of};
 ghost use Rattle.tap_told.specs.Phases.{commands_of, op_told, ops_told};
-ghost use Rattle.tap_told.specs.Told.{HasDevice};
+ghost use Rattle.tap_told.specs.Devices.{HasDevice};
 
 use crate::commands::command_at;
 use crate::open_part::{OpenPart, tell_op};

@@ -1,11 +1,12 @@
 //! The parts of phases.
 
-ghost use Rattle.std.specs.Prelude.{◌≡◌, IfOk, OnOk, map};
+ghost use Rattle.std.specs.Prelude.{◌≡◌, [], IfOk, OnOk, map};
 ghost use Rattle.std.specs.List.{AllByRecursion};
 ghost use Rattle.tap_world.specs.Project.{phase_parts};
 ghost use Rattle.tap_world.specs.Setup.{setup_of};
 ghost use Rattle.tap_told.specs.Phases.{answers_told, in_order, untold};
-ghost use Rattle.tap_told.specs.Told.{HasDevice, told_world};
+ghost use Rattle.tap_told.specs.Devices.{HasDevice};
+ghost use Rattle.tap_told.specs.Told.{told_world};
 
 use crate::commands::commands_of;
 use crate::open_part::{OpenPart, tell_answer};

@@ -6,7 +6,7 @@ ghost use Rattle.tap_world.specs.ByNumber.{numbered};
 ghost use Rattle.tap_world.specs.Guests.{Vhost};
 ghost use Rattle.tap_world.specs.Project.{lists_from, ring_part, ring_parts};
 ghost use Rattle.vhost_dev.specs.Settings.{ring_at};
-ghost use Rattle.tap_told.specs.Told.{vhosts_of};
+ghost use Rattle.tap_told.specs.Needs.{vhosts_of};
 
 use sqlite_items::Items;
 use std::alloc::{AllocError, Global};

@@ -4,7 +4,8 @@ ghost use Rattle.std.specs.Prelude.{◌≡◌, IfOk};
 ghost use Rattle.tap_lines.specs.Files.{files_of};
 ghost use Rattle.tap_world.specs.Project.{project};
 ghost use Rattle.tap_world.specs.Setup.{setup_of};
-ghost use Rattle.tap_told.specs.Told.{CanBeTold, told_world, vhosts_of};
+ghost use Rattle.tap_told.specs.Needs.{CanBeTold, vhosts_of};
+ghost use Rattle.tap_told.specs.Told.{told_world};
 
 use crate::files::file_parts;
 use crate::guests::guest_parts;

@@ -1,0 +1,5 @@
+mod Lists
+mod Filled
+mod Actors
+mod Declared
+mod Worlds
