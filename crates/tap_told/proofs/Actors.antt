@@ -1,8 +1,14 @@
 -- A stable sort by actors puts the answers actor by actor.
-use Rattle.std.proofs.Common.{◌≡◌, ℕ, zero, suc, ◌+◌, ◌<◌, ◌≤◌, Bool, true, false, cond, List, [], ◌∷◌, ◌++◌, ◌==◌, nat_lt, length, get_or, sym, ap, ◌∙◌, refl, arith}
-use Rattle.std.specs.Prelude.{filter}
+use Rattle.std.proofs.Common.{◌≡◌, ℕ, zero, suc, ◌+◌, ◌<◌, ◌≤◌, Bool, true, false, cond, List, [], ◌∷◌, ◌++◌, ◌==◌, ◌&&◌, nat_lt, length, get_or, sym, ap, ◌∙◌, refl, arith}
+use Rattle.std.specs.Prelude.{filter, not}
 use Rattle.std.specs.List.{All, AllByRecursion}
-use Rattle.std.specs.List.Sorted.{IsNonDecreasingBy}
+use Rattle.std.specs.Ordering.{is_lt, nat_cmp}
+use Rattle.std.specs.declared.cmp.Ordering.TheVariants.{Less, Equal, Greater}
+use Rattle.std.proofs.lemmas.Bool.Decides.{nat_tests}
+use Rattle.std.specs.List.Sorted.{IsNonDecreasingBy, IsPermutation, IsStableByKey, ties}
+use Rattle.std.proofs.lemmas.List.Elements.{All-filter, All-from_recursion, recursion_from_All}
+use Rattle.std.proofs.lemmas.List.Sorted.{All-permutation}
+use Rattle.tap_trace.specs.declared.answer.Answer.TheVariants.{Done}
 use Rattle.tap_trace.specs.declared.trace.AnswerLine.{AnswerLine}
 use Rattle.tap_told.specs.Phases.{by_actors}
 
@@ -111,3 +117,45 @@ same_by actor zero xs ys same = refl
 same_by actor (suc more) xs ys same =
     ap (λ t. t ++ by_actors (actor + 1) more xs) (same actor (omega arith))
     ∙ ap (λ t. filter (is_by actor) ys ++ t) (same_by (actor + 1) more xs ys (λ k lt. same k (omega arith)))
+
+-- ---- a stable sort
+
+not_less : (a e : Bool) → not (is_lt (cond a Less (cond e Equal Greater))) ≡ not a
+not_less true e = refl
+not_less false true = refl
+not_less false false = refl
+
+neither : (k n : ℕ) → (not (nat_lt k n) && not (nat_lt n k)) ≡ (n == k)
+neither k n = grind (arith, nat_tests)
+
+-- those that tie with an answer are those of its actor
+ties_are : (x y : AnswerLine) → ties (λ (a b : AnswerLine). is_lt (nat_cmp a.actor b.actor)) x y ≡ is_by x.actor y
+ties_are x y =
+    ap (λ b. b && not (is_lt (nat_cmp y.actor x.actor))) (not_less (nat_lt x.actor y.actor) (x.actor == y.actor))
+    ∙ ap (λ b. not (nat_lt x.actor y.actor) && b) (not_less (nat_lt y.actor x.actor) (y.actor == x.actor)) ∙ neither x.actor y.actor
+
+abbrev an_answer : ℕ → AnswerLine
+an_answer actor = record { actor = actor; command = 0; seen = 0; answer = Done }
+
+all_below : (actors : ℕ) (xs : List AnswerLine) → is_below actors (filter (λ (x : AnswerLine). nat_lt x.actor actors) xs)
+all_below actors [] = tt
+all_below actors (x ∷ xs) = one_below (nat_lt x.actor actors) actors x (filter (λ (y : AnswerLine). nat_lt y.actor actors) xs) refl (all_below actors xs)
+    where
+      one_below : (b : Bool) (n : ℕ) (y : AnswerLine) (ys : List AnswerLine) → nat_lt y.actor n ≡ b → is_below n ys → is_below n (cond b (y ∷ ys) ys)
+      one_below true n y ys is rest = (let lt : y.actor < n = grind (arith, nat_tests) in lt, rest)
+      one_below false n y ys is rest = rest
+
+-- where answers of so many actors were kept and sorted stably by actor, they are those of the actors, one by one
+pub in_actor_order : (actors : ℕ) (xs zs ys : List AnswerLine) → zs ≡ filter (λ (x : AnswerLine). nat_lt x.actor actors) xs
+    → IsPermutation zs ys → IsNonDecreasingBy (λ (x : AnswerLine). x.actor) ys → IsStableByKey (λ (x : AnswerLine). x.actor) nat_cmp zs ys
+    → ys ≡ by_actors 0 actors xs
+in_actor_order actors xs zs ys kept moved rises stable =
+    let P = λ (x : AnswerLine). x.actor < actors in
+    let lt = λ (a b : AnswerLine). is_lt (nat_cmp a.actor b.actor) in
+    let below_zs : is_below actors zs = rw kept (all_below actors xs) in
+    let below : is_below actors ys = recursion_from_All P ys (All-permutation P zs ys moved (All-from_recursion P zs below_zs)) in
+    let same : (k : ℕ) → k < 0 + actors → filter (is_by k) ys ≡ filter (is_by k) xs
+        = λ k within. sym (filter_agrees (ties lt (an_answer k)) (is_by k) ys (ties_are (an_answer k))) ∙ stable (an_answer k)
+        ∙ filter_agrees (ties lt (an_answer k)) (is_by k) zs (ties_are (an_answer k)) ∙ ap (filter (is_by k)) kept
+        ∙ filter_twice (is_by k) (λ (x : AnswerLine). nat_lt x.actor actors) xs (λ x its. let lower : nat_lt x.actor actors ≡ true = grind (arith, nat_tests) in lower) in
+    sorted_is actors ys rises below ∙ same_by 0 actors ys xs same

@@ -51,6 +51,12 @@ changed_at first (suc i) change (x ∷ xs) d lt =
     ∙ ap (λ k. x ∷ changed_from (first + 1) k change xs) place
     ∙ ap (λ t. x ∷ t) (changed_at (first + 1) i change xs d (omega arith))
 
+pub changed_here : {A : Type 0} (i : ℕ) (change : A → A) (xs : List A) (d : A) → i < length xs
+    → changed_from 0 i change xs ≡ set xs i (change (get_or xs i d))
+changed_here i change xs d lt =
+    let place : i ≡ 0 + i = omega arith in
+    ap (λ k. changed_from 0 k change xs) place ∙ changed_at 0 i change xs d lt
+
 unmoved : {A : Type 0} (b : Bool) (x y : A) → y ≡ x → (if b then y else x) ≡ x
 unmoved true x y e = e
 unmoved false x y e = refl

@@ -2,4 +2,4 @@ mod Lists
 mod Filled
 mod Actors
 mod Declared
-mod Worlds
+mod Positions

@@ -1,6 +1,6 @@
 //! The operations on the queue table.
 
-ghost use Rattle.std.specs.Prelude.{◌≡◌, ◌<◌, IfOk, OnOk, map, length, option_to_list};
+ghost use Rattle.std.specs.Prelude.{◌≡◌, ◌<◌, [], IfOk, OnOk, map, length, slice_index_or};
 ghost use Rattle.std.specs.List.{AllByRecursion};
 ghost use Rattle.tap_world.specs.Project.{op_line, with_versions, words_of};
 ghost use Rattle.tap_world.specs.Setup.{setup_of};
@@ -14,6 +14,14 @@ use std::alloc::{AllocError, Global};
 use tap_steer::Op;
 use tap_trace::{OpLine, OpText};
 use tap_world::Published;
+use text_fields::DeviceName;
+
+fn name_of(scenario: &Scenario, device: u16) -> DeviceName
+    requires { device < length scenario.now.names }
+    ensures { result ≡ slice_index_or (setup_of scenario.now).names device [] }
+{
+    scenario.names.as_slice()[usize::from(device)].duplicate()
+}
 
 // The words of an operation: its own, the name of its device, or those of its command.
 fn words_of(
@@ -25,18 +33,18 @@ fn words_of(
     requires { HasDevice scenario.now.names published.now }
     ensures { IfOk result (λ text. text ≡ words_of (setup_of scenario.now) command.now published.now.op) }
 {
-    Ok(match published.op {
+    match published.op {
         Op::SetIff {
             file,
             device,
             flags,
-        } => OpText::SetIff {
+        } => Ok(OpText::SetIff {
             file,
-            name: scenario.names.as_slice()[usize::from(device)].duplicate(),
+            name: name_of(scenario, device),
             flags,
-        },
-        Op::Learn { file, hash } => OpText::Learn { file, hash },
-        Op::Back { file, side, vhost } => OpText::Back { file, side, vhost },
+        }),
+        Op::Learn { file, hash } => Ok(OpText::Learn { file, hash }),
+        Op::Back { file, side, vhost } => Ok(OpText::Back { file, side, vhost }),
         Op::SetQueue { .. }
         | Op::Shut { .. }
         | Op::HdrSize { .. }
@@ -44,8 +52,8 @@ fn words_of(
         | Op::Tick { .. }
         | Op::Steering { .. }
         | Op::Filter { .. }
-        | Op::Resize { .. } => OpText::Words(command.duplicate(alloc)?),
-    })
+        | Op::Resize { .. } => Ok(OpText::Words(command.duplicate(alloc)?)),
+    }
 }
 
 // The line of the operation that made a version, where its command is one of the scenario's.
@@ -70,6 +78,25 @@ fn op_line(
     }
 }
 
+// Tells the operation that made a version in the part of its phase.
+fn tell_one(
+    alloc: Global,
+    parts: &mut [OpenPart],
+    scenario: &Scenario,
+    commands: &[&Command],
+    version: u64,
+    published: &Published,
+) -> Result<(), AllocError>
+    requires commands { map (λ c. c.now) commands.now ≡ commands_of scenario.now.phases }
+    requires device { HasDevice scenario.now.names published.now }
+    ensures { OnOk result (parts.new ≡ op_told (setup_of scenario.now) parts.old (version, published.now)) }
+{
+    match op_line(alloc, scenario, commands, version, published)? {
+        Some(line) => tell_op(parts, published.phase, line),
+        None => Ok(()),
+    }
+}
+
 /// Tells each operation in the part of its phase.
 pub(crate) fn tell_ops(
     alloc: Global,
@@ -83,10 +110,7 @@ pub(crate) fn tell_ops(
     ensures { OnOk result (parts.new ≡ ops_told (setup_of scenario.now) parts.old (with_versions 1 ops.now)) }
 {
     for (index, published) in ops.iter().enumerate() {
-        let version = index as u64 + 1;
-        if let Some(line) = op_line(alloc, scenario, commands, version, published)? {
-            tell_op(parts, published.phase, line)?;
-        }
+        tell_one(alloc, parts, scenario, commands, index as u64 + 1, published)?;
     }
     Ok(())
 }

@@ -1,12 +1,13 @@
 //! The lists of positions of rings.
 
-ghost use Rattle.std.specs.Prelude.{◌≡◌, ◌==◌, ◌≤◌, ◌^◌, ◌++◌, IfOk, OnOk, [], ◌∷◌, length, map, drop, take};
+ghost use Rattle.std.specs.Prelude.{◌≡◌, ◌==◌, ◌≤◌, ◌^◌, ◌++◌, IfOk, OnOk, [], ◌∷◌, length, map, drop, take, slice_get};
 ghost use Rattle.std.specs.List.{flat_map};
 ghost use Rattle.tap_world.specs.ByNumber.{numbered};
 ghost use Rattle.tap_world.specs.Guests.{Vhost};
 ghost use Rattle.tap_world.specs.Project.{lists_from, ring_part, ring_parts};
 ghost use Rattle.vhost_dev.specs.Settings.{ring_at};
 ghost use Rattle.tap_told.specs.Needs.{vhosts_of};
+ghost use Rattle.tap_told.specs.Positions.{begins_at};
 
 use sqlite_items::Items;
 use std::alloc::{AllocError, Global};
@@ -23,11 +24,26 @@ fn between(journal: &[(u16, u16, u32)], start: u64, end: u64) -> &[(u16, u16, u3
 }
 
 // How many chains had been published before the list of this index, or in all where there is no such list.
-fn begins_at(lists: &[(u16, u64)], index: usize, journal: &[(u16, u16, u32)]) -> u64 {
+fn begins_at(lists: &[(u16, u64)], index: usize, journal: &[(u16, u16, u32)]) -> u64
+    ensures { result ≡ begins_at (slice_get lists.now index) journal.now }
+{
     match lists.get(index) {
         Some((_, start)) => *start,
         None => journal.len() as u64,
     }
+}
+
+fn position_list(
+    alloc: Global,
+    base: u16,
+    used: &[(u16, u16, u32)],
+) -> Result<PositionList, AllocError>
+    ensures { IfOk result (λ list. list ≡ record { base = base; used = used.now }) }
+{
+    Ok(PositionList {
+        base,
+        used: Items::from_slice(alloc, used)?,
+    })
 }
 
 // Each list's base and its chains, which end where the next list begins.
@@ -41,10 +57,7 @@ fn position_lists(
     let mut told = Items::new(alloc);
     for (index, (base, start)) in lists.iter().enumerate() {
         let end = begins_at(lists, index + 1, journal);
-        told.push(PositionList {
-            base: *base,
-            used: Items::from_slice(alloc, between(journal, *start, end))?,
-        })?;
+        told.push(position_list(alloc, *base, between(journal, *start, end))?)?;
     }
     Ok(told)
 }
