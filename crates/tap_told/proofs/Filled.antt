@@ -1,17 +1,21 @@
 -- The parts of phases, filled operation by operation and answer by answer, are those of the world.
-use Rattle.std.proofs.Common.{◌≡◌, ℕ, zero, suc, ◌+◌, ◌<◌, ◌≤◌, Bool, true, false, cond, if◌then◌else◌, List, [], ◌∷◌, ◌++◌, ◌==◌, ◌&&◌, length, get_or, set, map, Option, Some, None, sym, ap, ◌∙◌, refl, append_assoc, add-zero, arith}
+use Rattle.std.proofs.Common.{◌≡◌, ℕ, zero, suc, ◌+◌, ◌<◌, ◌≤◌, Bool, true, false, cond, if◌then◌else◌, List, [], ◌∷◌, ◌++◌, ◌==◌, ◌&&◌, length, take, drop, get_or, set, map, Option, Some, None, sym, ap, ◌∙◌, refl, append_assoc, add-zero, arith}
 use Rattle.std.specs.Prelude.{filter, fold, option_to_list}
 use Rattle.std.specs.List.{flat_map}
-use Rattle.std.proofs.lemmas.List.{append-nil}
+use Rattle.std.proofs.lemmas.List.{append-nil, take_all}
+use Rattle.std.proofs.Math.ListN.{drop_of_length-le}
 use Rattle.scen_text.specs.declared.scenario.Phase.{Phase}
+use Rattle.scen_text.specs.declared.scenario.Scenario.{Scenario}
 use Rattle.tap_trace.specs.declared.trace.AnswerLine.{AnswerLine}
 use Rattle.tap_trace.specs.declared.trace.OpLine.{OpLine}
 use Rattle.tap_trace.specs.declared.trace.PhasePart.{PhasePart}
 use Rattle.tap_world.specs.Project.{answers_of, answer_lines, op_line, op_lines, phase_parts, with_versions}
-use Rattle.tap_world.specs.Setup.{Setup}
+use Rattle.tap_world.specs.Setup.{Setup, setup_of}
 use Rattle.tap_world.specs.World.{World}
 use Rattle.tap_world.specs.declared.told.Published.{Published}
 use Rattle.tap_world.specs.declared.told.Said.{Said}
+use Rattle.tap_told.specs.Told.{told_world}
+use Rattle.tap_told.proofs.Declared.{phases_of_setup}
 use Rattle.tap_told.specs.Phases.{answer_told, answers_told, by_actors, changed_from, in_order, op_told, ops_told, untold, with_answer, with_ops}
 
 -- ---- one part changes
@@ -190,3 +194,22 @@ phases_filled s w n (p ∷ ps) =
     ap (λ qs. map in_order (answers_from n qs w.said)) ops ∙ ap (map in_order) answers
     ∙ ap (λ q. q ∷ map in_order (answers_from (n + 1) behind w.said)) sorted
     ∙ ap (λ t. record { actors = p.actors; ops = op_lines s n w.ops; answers = answer_lines n 0 p.actors w.said } ∷ t) (phases_filled s w (n + 1) ps)
+
+-- ---- a vector's items, written through its slice
+
+written_back : {A : Type 0} (n : ℕ) (xs ys : List A) → length xs ≡ n → length ys ≡ length xs → take n (ys ++ drop (length ys) xs) ≡ ys
+written_back n xs ys len same =
+    ap (λ t. take n (ys ++ t)) (drop_of_length-le xs (omega (arith, same))) ∙ ap (take n) (append-nil ys) ∙ take_all n ys (omega (arith, same, len))
+
+pub phases_told : (s : Scenario) (ops : List Published) (said : List Said) (n : ℕ) (phases : List Phase) (items slice new : List PhasePart)
+    → phases ≡ s.phases → items ≡ map untold phases → slice ≡ items → length slice ≡ n → length new ≡ length slice
+    → new ≡ answers_told (ops_told (setup_of s) slice (with_versions 1 ops)) said
+    → map in_order (take n (new ++ drop (length new) items))
+    ≡ phase_parts (setup_of s) (told_world ops said [] [] []) 0 (setup_of s).phases
+phases_told s ops said n phases items slice new given opened through len same told =
+    let w = told_world ops said [] [] [] in
+    let items_len : length items ≡ n = ap length (sym through) ∙ len in
+    let begun : slice ≡ map untold (setup_of s).phases = through ∙ opened ∙ ap (map untold) (given ∙ sym (phases_of_setup s)) in
+    ap (map in_order) (written_back n items new items_len (same ∙ ap length through)) ∙ ap (map in_order) told
+    ∙ ap (λ ps. map in_order (answers_told (ops_told (setup_of s) ps (with_versions 1 ops)) said)) begun
+    ∙ phases_filled (setup_of s) w 0 (setup_of s).phases

@@ -2,9 +2,9 @@
 
 ghost use Rattle.std.specs.Prelude.{◌≡◌, [], IfOk, OnOk, map};
 ghost use Rattle.std.specs.List.{AllByRecursion};
-ghost use Rattle.tap_world.specs.Project.{phase_parts};
+ghost use Rattle.tap_world.specs.Project.{phase_parts, with_versions};
 ghost use Rattle.tap_world.specs.Setup.{setup_of};
-ghost use Rattle.tap_told.specs.Phases.{answers_told, in_order, untold};
+ghost use Rattle.tap_told.specs.Phases.{answers_told, in_order, ops_told, untold};
 ghost use Rattle.tap_told.specs.Devices.{HasDevice};
 ghost use Rattle.tap_told.specs.Told.{told_world};
 
@@ -49,6 +49,24 @@ fn close_parts(alloc: Global, parts: Vec<OpenPart>) -> Result<Items<PhasePart>, 
     Ok(closed)
 }
 
+// Tells operations and answers in the parts of their phases.
+fn tell_all(
+    alloc: Global,
+    parts: &mut [OpenPart],
+    scenario: &Scenario,
+    ops: &[Published],
+    said: Vec<Said>,
+) -> Result<(), AllocError>
+    requires { AllByRecursion (HasDevice scenario.now.names) ops.now }
+    ensures { OnOk result (parts.new
+        ≡ answers_told (ops_told (setup_of scenario.now) parts.old (with_versions 1 ops.now)) said.items) }
+{
+    let commands = commands_of(alloc, scenario.phases.as_slice())?;
+    tell_ops(alloc, parts, scenario, &commands, ops)?;
+    tell_answers(parts, said)?;
+    Ok(())
+}
+
 /// The parts of a scenario's phases, with these operations and answers.
 pub(crate) fn phase_parts(
     alloc: Global,
@@ -60,10 +78,7 @@ pub(crate) fn phase_parts(
     ensures { IfOk result (λ parts. parts ≡ phase_parts (setup_of scenario.now)
         (told_world ops.now said.items [] [] []) 0 (setup_of scenario.now).phases) }
 {
-    let phases = scenario.phases.as_slice();
-    let commands = commands_of(alloc, phases)?;
-    let mut parts = open_parts(alloc, phases)?;
-    tell_ops(alloc, &mut parts, scenario, &commands, ops)?;
-    tell_answers(&mut parts, said)?;
+    let mut parts = open_parts(alloc, scenario.phases.as_slice())?;
+    tell_all(alloc, &mut parts, scenario, ops, said)?;
     close_parts(alloc, parts)
 }
