@@ -1,10 +1,9 @@
 -- Declarations leave the names and the phases of a scenario.
-use Rattle.std.proofs.Common.{◌≡◌, ℕ, zero, suc, ◌<◌, length, get_or, arith, List, [], ◌∷◌, ◌++◌, ◌∙◌, ap, sym, refl, map, Option, Some, None}
+use Rattle.std.proofs.Common.{◌≡◌, ℕ, zero, suc, ◌<◌, length, get_or, arith, List, [], ◌∷◌, ◌++◌, ◌∙◌, ap, sym, refl, map}
 use Rattle.std.specs.Prelude.{fold, slice_get, slice_index_or, option_map}
 use Rattle.std.specs.List.{flat_map}
 use Rattle.std.proofs.lemmas.List.{map-append}
 use Rattle.std.proofs.lemmas.Option.{slice_get-map}
-use Rattle.scen_words.specs.declared.command.Command.{Command}
 use Rattle.scen_words.specs.declared.declaration.Declaration.{Declaration}
 use Rattle.scen_words.specs.declared.declaration.Declaration.TheVariants.{File, Region, Vhost, Prog, Flows}
 use Rattle.scen_text.specs.declared.scenario.Line.{Line}

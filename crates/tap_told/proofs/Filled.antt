@@ -1,5 +1,5 @@
 -- The parts of phases, filled operation by operation and answer by answer, are those of the world.
-use Rattle.std.proofs.Common.{◌≡◌, ℕ, zero, suc, ◌+◌, ◌<◌, ◌≤◌, Bool, true, false, cond, if◌then◌else◌, List, [], ◌∷◌, ◌++◌, ◌==◌, ◌&&◌, length, take, drop, get_or, set, map, Option, Some, None, sym, ap, ◌∙◌, refl, append_assoc, add-zero, arith}
+use Rattle.std.proofs.Common.{◌≡◌, ℕ, zero, suc, ◌+◌, ◌<◌, ◌≤◌, Bool, true, false, cond, if◌then◌else◌, List, [], ◌∷◌, ◌++◌, ◌==◌, ◌&&◌, length, take, drop, get_or, set, map, sym, ap, ◌∙◌, refl, append_assoc, arith}
 use Rattle.std.specs.Prelude.{filter, fold, option_to_list}
 use Rattle.std.specs.List.{flat_map}
 use Rattle.std.proofs.lemmas.List.{append-nil, take_all}
@@ -16,7 +16,7 @@ use Rattle.tap_world.specs.declared.told.Published.{Published}
 use Rattle.tap_world.specs.declared.told.Said.{Said}
 use Rattle.tap_told.specs.Told.{told_world}
 use Rattle.tap_told.proofs.Declared.{phases_of_setup}
-use Rattle.tap_told.specs.Phases.{answer_told, answers_told, by_actors, changed_from, in_order, op_told, ops_told, untold, with_answer, with_ops}
+use Rattle.tap_told.specs.Phases.{answers_told, by_actors, changed_from, in_order, ops_told, untold, with_answer, with_ops}
 
 -- ---- one part changes
 

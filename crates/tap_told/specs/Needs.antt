@@ -1,5 +1,5 @@
 -- This project's own: what has to hold of the parts of a world, so that they can be told.
-use Rattle.std.specs.Prelude.{ℕ, ◌<◌, ◌≤◌, ◌^◌, List, length, map, Option, Some, None, IfSome, option_map}
+use Rattle.std.specs.Prelude.{◌≤◌, ◌^◌, List, length, map, Option, option_map}
 use Rattle.std.specs.List.{AllByRecursion}
 use Rattle.scen_text.specs.declared.scenario.Scenario.{Scenario}
 use Rattle.tap_guests.specs.Side.{Side}

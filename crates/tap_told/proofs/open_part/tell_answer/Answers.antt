@@ -1,4 +1,4 @@
-use Rattle.std.proofs.Common.{[], ◌∷◌, ◌∙◌, ap, sym, set, arith}
+use Rattle.std.proofs.Common.{◌∙◌, ap, sym, set, arith}
 use Rattle.tap_told.specs.Phases.{with_answer}
 use Rattle.tap_told.proofs.Filled.{changed_here, changed_past}
 use Rattle.tap_told.proofs.open_part.tell_answer.Goals as goal

@@ -1,7 +1,6 @@
-use Rattle.std.proofs.Common.{◌≡◌, ◌∙◌, ap, Some, None}
+use Rattle.std.proofs.Common.{◌∙◌, ap, Some}
 use Rattle.std.specs.Prelude.{option_map, slice_get}
 use Rattle.scen_words.specs.declared.command.Command.{Command}
-use Rattle.tap_trace.specs.declared.trace.OpLine.{OpLine}
 use Rattle.tap_world.specs.Project.{words_of}
 use Rattle.tap_world.specs.Setup.{setup_of}
 use Rattle.tap_told.proofs.Declared.{command_is}
