@@ -88,14 +88,13 @@ head_least : (x : AnswerLine) (xs ys : List AnswerLine) (j : ℕ) → IsNonDecre
 head_least x [] ys j rises same len = tt
 head_least x (y ∷ xs) ys j rises same len =
     let first : x.actor ≤ (get_or (x ∷ ys) (suc j) x).actor = rises 0 (suc j) x (omega arith) (omega arith) in
-    let is : get_or ys j x ≡ y = ap (λ k. get_or ys k x) (sym (add_nothing j)) ∙ same 0 x in
-    (
+    let is : get_or ys j x ≡ y = ap (λ k. get_or ys k x) (sym (add_nothing j)) ∙ same 0 x in (
       rw (← is) first,
       head_least x xs ys (j + 1) rises (λ i d. let place : j + 1 + i ≡ j + suc i = omega arith in ap (λ k. get_or ys k d) place ∙ same (suc i) d) (omega arith),
     )
-    where
-      add_nothing : (n : ℕ) → n + 0 ≡ n
-      add_nothing n = omega arith
+  where
+    add_nothing : (n : ℕ) → n + 0 ≡ n
+    add_nothing n = omega arith
 
 tail_rises : (x : AnswerLine) (xs : List AnswerLine) → IsNonDecreasingBy (λ (y : AnswerLine). y.actor) (x ∷ xs) → IsNonDecreasingBy (λ (y : AnswerLine). y.actor) xs
 tail_rises x xs rises i j d le lt = rises (suc i) (suc j) d (omega arith) (omega arith)
@@ -106,9 +105,9 @@ sorted_is more (x ∷ xs) rises below =
     let least = head_least x xs xs 0 rises (λ i d. ap (λ k. get_or xs k d) (zero_and i)) (zero_and (length xs)) in
     let within : x.actor < 0 + more = let b = below.0 in omega arith in
     ap (λ t. x ∷ t) (sorted_is more xs (tail_rises x xs rises) below.1) ∙ sym (comes_first 0 more x xs (omega arith) within least)
-    where
-      zero_and : (n : ℕ) → 0 + n ≡ n
-      zero_and n = omega arith
+  where
+    zero_and : (n : ℕ) → 0 + n ≡ n
+    zero_and n = omega arith
 
 -- where the answers of each actor are the same
 pub same_by : (actor more : ℕ) (xs ys : List AnswerLine) → ((k : ℕ) → k < actor + more → filter (is_by k) xs ≡ filter (is_by k) ys)
@@ -140,10 +139,10 @@ an_answer actor = record { actor = actor; command = 0; seen = 0; answer = Done }
 all_below : (actors : ℕ) (xs : List AnswerLine) → is_below actors (filter (λ (x : AnswerLine). nat_lt x.actor actors) xs)
 all_below actors [] = tt
 all_below actors (x ∷ xs) = one_below (nat_lt x.actor actors) actors x (filter (λ (y : AnswerLine). nat_lt y.actor actors) xs) refl (all_below actors xs)
-    where
-      one_below : (b : Bool) (n : ℕ) (y : AnswerLine) (ys : List AnswerLine) → nat_lt y.actor n ≡ b → is_below n ys → is_below n (cond b (y ∷ ys) ys)
-      one_below true n y ys is rest = (let lt : y.actor < n = grind (arith, nat_tests) in lt, rest)
-      one_below false n y ys is rest = rest
+  where
+    one_below : (b : Bool) (n : ℕ) (y : AnswerLine) (ys : List AnswerLine) → nat_lt y.actor n ≡ b → is_below n ys → is_below n (cond b (y ∷ ys) ys)
+    one_below true n y ys is rest = (let lt : y.actor < n = grind (arith, nat_tests) in lt, rest)
+    one_below false n y ys is rest = rest
 
 -- where answers of so many actors were kept and sorted stably by actor, they are those of the actors, one by one
 pub in_actor_order : (actors : ℕ) (xs zs ys : List AnswerLine) → zs ≡ filter (λ (x : AnswerLine). nat_lt x.actor actors) xs
@@ -155,7 +154,7 @@ in_actor_order actors xs zs ys kept moved rises stable =
     let below_zs : is_below actors zs = rw kept (all_below actors xs) in
     let below : is_below actors ys = recursion_from_All P ys (All-permutation P zs ys moved (All-from_recursion P zs below_zs)) in
     let same : (k : ℕ) → k < 0 + actors → filter (is_by k) ys ≡ filter (is_by k) xs
-        = λ k within. sym (filter_agrees (ties lt (an_answer k)) (is_by k) ys (ties_are (an_answer k))) ∙ stable (an_answer k)
-        ∙ filter_agrees (ties lt (an_answer k)) (is_by k) zs (ties_are (an_answer k)) ∙ ap (filter (is_by k)) kept
-        ∙ filter_twice (is_by k) (λ (x : AnswerLine). nat_lt x.actor actors) xs (λ x its. let lower : nat_lt x.actor actors ≡ true = grind (arith, nat_tests) in lower) in
+    = λ k within. sym (filter_agrees (ties lt (an_answer k)) (is_by k) ys (ties_are (an_answer k))) ∙ stable (an_answer k)
+    ∙ filter_agrees (ties lt (an_answer k)) (is_by k) zs (ties_are (an_answer k)) ∙ ap (filter (is_by k)) kept
+    ∙ filter_twice (is_by k) (λ (x : AnswerLine). nat_lt x.actor actors) xs (λ x its. let lower : nat_lt x.actor actors ≡ true = grind (arith, nat_tests) in lower) in
     sorted_is actors ys rises below ∙ same_by 0 actors ys xs same

@@ -61,8 +61,8 @@ pub name_is : (s : Scenario) (names : List (List ℕ)) (device n : ℕ) (d : Lis
 name_is s names device n d same number lt =
     ap (λ k. get_or names k d) number ∙ ap (λ l. get_or l device d) same ∙ any_default s.names device d [] lt
     ∙ ap (λ l. get_or l device []) (sym (names_of_setup s))
-    where
-      any_default : (xs : List (List ℕ)) (i : ℕ) (d e : List ℕ) → i < length xs → get_or xs i d ≡ get_or xs i e
-      any_default [] i d e lt = absurd (omega arith)
-      any_default (x ∷ xs) zero d e lt = refl
-      any_default (x ∷ xs) (suc i) d e lt = any_default xs i d e (omega arith)
+  where
+    any_default : (xs : List (List ℕ)) (i : ℕ) (d e : List ℕ) → i < length xs → get_or xs i d ≡ get_or xs i e
+    any_default [] i d e lt = absurd (omega arith)
+    any_default (x ∷ xs) zero d e lt = refl
+    any_default (x ∷ xs) (suc i) d e lt = any_default xs i d e (omega arith)

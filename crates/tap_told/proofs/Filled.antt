@@ -189,8 +189,8 @@ phases_filled s w n (p ∷ ps) =
     fold_each n (λ (x : Said). x.phase) (λ x. with_answer x.line) had behind w.said
     ∙ ap (λ q. q ∷ answers_from (n + 1) behind w.said) (answers_each n had w.said) in
     let sorted : in_order (with_answers (said_in n w.said) had)
-        ≡ record { actors = p.actors; ops = op_lines s n w.ops; answers = answer_lines n 0 p.actors w.said }
-        = ap (λ l. record { actors = p.actors; ops = op_lines s n w.ops; answers = l }) (each_actor n 0 p.actors w.said) in
+    ≡ record { actors = p.actors; ops = op_lines s n w.ops; answers = answer_lines n 0 p.actors w.said }
+    = ap (λ l. record { actors = p.actors; ops = op_lines s n w.ops; answers = l }) (each_actor n 0 p.actors w.said) in
     ap (λ qs. map in_order (answers_from n qs w.said)) ops ∙ ap (map in_order) answers
     ∙ ap (λ q. q ∷ map in_order (answers_from (n + 1) behind w.said)) sorted
     ∙ ap (λ t. record { actors = p.actors; ops = op_lines s n w.ops; answers = answer_lines n 0 p.actors w.said } ∷ t) (phases_filled s w (n + 1) ps)

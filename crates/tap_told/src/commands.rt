@@ -8,10 +8,7 @@ ghost use Rattle.tap_told.specs.Phases.{commands_of};
 use scen_text::{Command, Line, Phase};
 use std::alloc::{AllocError, Global};
 
-fn push_commands<'a>(
-    commands: &mut Vec<&'a Command>,
-    lines: &'a [Line],
-) -> Result<(), AllocError>
+fn push_commands<'a>(commands: &mut Vec<&'a Command>, lines: &'a [Line]) -> Result<(), AllocError>
     ensures { OnOk result (map (λ c. c.now) commands.new.items
         ≡ map (λ c. c.now) commands.old.items ++ map (λ (l : Line). l.command) lines.now) }
 {

@@ -37,11 +37,7 @@ fn place_line(place: u64, entry: &Entry) -> PlaceLine
 }
 
 // The entries of a line whose first place is this one.
-fn place_lines(
-    alloc: Global,
-    first: u64,
-    line: &[Entry],
-) -> Result<Items<PlaceLine>, AllocError>
+fn place_lines(alloc: Global, first: u64, line: &[Entry]) -> Result<Items<PlaceLine>, AllocError>
     requires { first + length line.now < 2 ^ 64 }
     ensures { IfOk result (λ lines. lines ≡ place_lines first line.now) }
 {

@@ -77,11 +77,7 @@ impl OpenPart {
 }
 
 /// Tells an operation in the part of a phase, where there is such a phase.
-pub(crate) fn tell_op(
-    parts: &mut [OpenPart],
-    phase: u32,
-    line: OpLine,
-) -> Result<(), AllocError>
+pub(crate) fn tell_op(parts: &mut [OpenPart], phase: u32, line: OpLine) -> Result<(), AllocError>
     ensures { OnOk result (parts.new ≡ changed_from 0 phase (with_ops (line ∷ [])) parts.old) }
 {
     let index = phase as usize;

@@ -110,7 +110,14 @@ pub(crate) fn tell_ops(
     ensures { OnOk result (parts.new ≡ ops_told (setup_of scenario.now) parts.old (with_versions 1 ops.now)) }
 {
     for (index, published) in ops.iter().enumerate() {
-        tell_one(alloc, parts, scenario, commands, index as u64 + 1, published)?;
+        tell_one(
+            alloc,
+            parts,
+            scenario,
+            commands,
+            index as u64 + 1,
+            published,
+        )?;
     }
     Ok(())
 }

@@ -62,12 +62,7 @@ fn position_lists(
     Ok(told)
 }
 
-fn ring_part(
-    alloc: Global,
-    vhost: u16,
-    ring: u16,
-    dev: &VhostDev,
-) -> Result<RingPart, AllocError>
+fn ring_part(alloc: Global, vhost: u16, ring: u16, dev: &VhostDev) -> Result<RingPart, AllocError>
     ensures { IfOk result (λ part. part ≡ ring_part vhost ring (ring_at ring dev.now.settings)) }
 {
     let rx = ring == 0;

@@ -86,7 +86,12 @@ fn a_world_is_told(rt: HostRuntime) -> Result<(), Fail> {
         seen: 1,
         answer: Answer::Version(1),
     };
-    let said = vec![in alloc; Said { phase: 0, line: answer }]?;
+    let said = vec![in alloc;
+        Said {
+            phase: 0,
+            line: answer
+        },
+    ]?;
     let files = one_file(alloc)?;
     let trace = project(alloc, &scenario, &OPS, said, files, Vec::new(alloc), &[])?;
     assert!(rt;

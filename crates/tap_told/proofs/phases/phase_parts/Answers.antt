@@ -7,5 +7,5 @@ pub returns : goal.returns
 returns c =
     IfOk-weaker c.close_parts.result _ _
     (λ parts e. e ∙ phases_told c.args.scenario.now c.args.ops.now c.args.said.items _ _ _ _ _ c.as_slice.ensures c.in_ok-parts.ensures
-      c.deref_mut.ensures.value c.deref_mut.ensures.len c.tell_all.auto.parts c.in_ok-tell_all.ensures)
+    c.deref_mut.ensures.value c.deref_mut.ensures.len c.tell_all.auto.parts c.in_ok-tell_all.ensures)
     c.close_parts.ensures
