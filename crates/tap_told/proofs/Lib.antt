@@ -3,3 +3,4 @@ mod Filled
 mod Actors
 mod Declared
 mod Positions
+mod Steady

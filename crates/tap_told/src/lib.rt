@@ -20,5 +20,5 @@ mod telling;
 #[cfg(test)]
 mod tests;
 
-pub use laws::only_parts_are_told;
+pub use laws::{only_parts_are_told, steady_can_be_told};
 pub use telling::project;
