@@ -1,13 +1,11 @@
 -- Steady worlds of laid scenarios can be told.
-use Rattle.std.proofs.Common.{◌≡◌, ℕ, zero, suc, ◌+◌, ◌^◌, ◌<◌, ◌≤◌, ◌==◌, Bool, true, false, cond, List, [], ◌∷◌, length, map, Option, Some, None, sym, ap, subst, ◌∙◌, refl, arith}
+use Rattle.std.proofs.Common.{◌≡◌, ℕ, zero, suc, ◌<◌, ◌==◌, Bool, true, false, cond, List, [], ◌∷◌, length, map, Option, Some, None, sym, ap, subst, ◌∙◌, arith}
 use Rattle.std.specs.Prelude.{filter, slice_get, option_map, IfSome}
 use Rattle.std.specs.List.{AllByRecursion}
 use Rattle.std.proofs.lemmas.List.{length-map}
-use Rattle.guest_mem.specs.declared.region.Region.{Region}
 use Rattle.scen_laid.specs.Laid.{IsLaid}
 use Rattle.scen_laid.specs.Phases.{IsLine, IsPhase}
 use Rattle.scen_text.specs.declared.scenario.Line.{Line}
-use Rattle.scen_text.specs.declared.scenario.Phase.{Phase}
 use Rattle.scen_text.specs.declared.scenario.Scenario.{Scenario}
 use Rattle.scen_words.specs.declared.command.Command.{Command}
 use Rattle.scen_words.specs.declared.command.Command.TheVariants as command
@@ -18,7 +16,7 @@ use Rattle.tap_steer.specs.declared.operation.Op.{Op}
 use Rattle.tap_steer.specs.declared.operation.Op.TheVariants as op
 use Rattle.tap_world.specs.Guests.{Guest, Vhost}
 use Rattle.tap_world.specs.Line.{File}
-use Rattle.tap_world.specs.Setup.{Declared, NamesDeclared, Numbered, Setup, op_of, place_of, script_in, setup_of}
+use Rattle.tap_world.specs.Setup.{Declared, NamesDeclared, Numbered, Setup, place_of, script_in, setup_of}
 use Rattle.tap_world.specs.Steady.{IsOpOf, IsPublished, IsSteady}
 use Rattle.tap_world.specs.StepBackend.{side_of}
 use Rattle.tap_world.specs.World.{World}
