@@ -56,6 +56,13 @@ impl Files {
         }
     }
 
+    /// The files, by number.
+    pub fn sides(&self) -> &[Option<FileSide>]
+        ensures { result.now ≡ self.now }
+    {
+        &self.sides
+    }
+
     /// Whether there is a file of this number.
     pub fn has(&self, file: u16) -> bool
         ensures { result ≡ is_some (at self.now file) }

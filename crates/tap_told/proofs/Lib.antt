@@ -1,0 +1,6 @@
+mod Lists
+mod Filled
+mod Actors
+mod Declared
+mod Positions
+mod Steady
