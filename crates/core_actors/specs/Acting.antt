@@ -1,5 +1,5 @@
 -- This project's own: actors, with their commands as places among the lines of the phase.
-use Rattle.std.specs.Prelude.{◌≡◌, ℕ, ◌<◌, List, [], ◌∷◌, drop, map, length, slice_get, Option, Some, None}
+use Rattle.std.specs.Prelude.{◌≡◌, ℕ, ◌<◌, List, [], ◌∷◌, ◌++◌, drop, map, length, slice_get, Option, Some, None}
 use Rattle.std.specs.List.{AllByRecursion}
 use Rattle.scen_text.specs.declared.scenario.Line.{Line}
 use Rattle.scen_text.specs.declared.scenario.Phase.{Phase}
@@ -17,6 +17,14 @@ pub record Acting : Type 0 where
   pub seen : ℕ
   pub script : List ℕ
   pub doing : Doing
+
+-- one without commands
+abbrev pub idle : ℕ → Acting
+idle seen = record { seen = seen; script = []; doing = Begun }
+
+-- with one command more, at this place
+abbrev pub with_place : ℕ → Acting → Acting
+with_place place a = record a { script = a.script ++ place ∷ [] }
 
 -- ---- in the words of the world
 

@@ -1,7 +1,7 @@
 //! An actor.
 
-ghost use Rattle.std.specs.Prelude.{◌≡◌, ◌++◌, ◌∷◌, [], OnErr, OnOk, slice_get};
-ghost use Rattle.core_actors.specs.Acting.{ending, going};
+ghost use Rattle.std.specs.Prelude.{◌≡◌, OnErr, OnOk, slice_get};
+ghost use Rattle.core_actors.specs.Acting.{ending, going, idle, with_place};
 ghost use Rattle.core_shared.specs.declared.doing.Doing.TheVariants.{Begun};
 
 use core_shared::Doing;
@@ -32,7 +32,7 @@ impl Model for Actor {
 impl Actor {
     /// An actor without commands that has seen this version.
     pub fn new(alloc: Global, seen: u64) -> Actor
-        ensures { result ≡ record { seen = seen; script = []; doing = Begun } }
+        ensures { result ≡ idle seen }
     {
         Actor {
             seen,
@@ -43,7 +43,7 @@ impl Actor {
 
     /// One command more, behind the others: the one at this place.
     pub fn push(&mut self, place: u32) -> Result<(), AllocError>
-        ensures ok { OnOk result (self.new ≡ record self.old { script = self.old.script ++ place ∷ [] }) }
+        ensures ok { OnOk result (self.new ≡ with_place place self.old) }
         ensures err { OnErr result (self.new ≡ self.old) }
     {
         self.script.push_back(place)?;

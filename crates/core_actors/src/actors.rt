@@ -1,10 +1,11 @@
 //! The actors of a phase.
 
-ghost use Rattle.std.specs.Prelude.{◌≡◌, ◌<◌, [], IfOk, IsSome, Some, length, slice_get};
+ghost use Rattle.std.specs.Prelude.{◌≡◌, ◌<◌, [], replicate, IfOk, IfSome, IsSome, OnOk, Some, length, slice_get};
 ghost use Rattle.std.specs.Borrow.{sem};
 ghost use Rattle.std.specs.List.{AllByRecursion};
 ghost use Rattle.std.specs.Option.{option_copied};
-ghost use Rattle.core_actors.specs.Acting.{AreBeginning};
+ghost use Rattle.tap_world.specs.ByNumber.{with_nth};
+ghost use Rattle.core_actors.specs.Acting.{AreBeginning, idle, with_place};
 
 use crate::actor::Actor;
 use scen_text::Phase;
@@ -21,7 +22,8 @@ pub struct Actors {
 
 impl Model for Actors {
     ghost use Rattle.std.specs.Prelude.{List};
-    ghost use Rattle.core_actors.specs.Acting.{Acting};
+    ghost use Rattle.tap_world.specs.ByNumber.{with_nth};
+ghost use Rattle.core_actors.specs.Acting.{Acting};
 
     ghost Value = { List Acting };
 
@@ -46,8 +48,8 @@ impl Actors {
         ensures { IfOk result (λ actors. AreBeginning phase.now seen actors) }
     {
         let mut actors = Actors::of(alloc, phase.actors, seen)?;
-        for (place, line) in phase.lines.iter().enumerate() {
-            if let Err(error) = actors.items[usize::from(line.actor)].push(place as u32) {
+        for (place, line) in phase.lines.as_slice().iter().enumerate() {
+            if let Err(error) = actors.add(line.actor, place as u32) {
                 actors.abandon();
                 return Err(error);
             }
@@ -55,8 +57,19 @@ impl Actors {
         Ok(actors)
     }
 
+    // An actor has one command more, behind its others.
+    fn add(&mut self, actor: u16, place: u32) -> Result<(), AllocError>
+        requires { IsSome (slice_get self.old actor) }
+        ensures { OnOk result (IfSome (slice_get self.old actor) (λ a. self.new
+            ≡ with_nth actor (with_place place a) self.old)) }
+    {
+        self.actor_mut(actor).push(place)
+    }
+
     // So many actors without commands.
-    fn of(alloc: Global, count: u16, seen: u64) -> Result<Actors, AllocError> {
+    fn of(alloc: Global, count: u16, seen: u64) -> Result<Actors, AllocError>
+        ensures { IfOk result (λ actors. actors ≡ replicate count (idle seen)) }
+    {
         let mut actors = Actors::new(alloc);
         for _ in 0..count {
             if let Err(error) = actors.items.reserve(1) {
