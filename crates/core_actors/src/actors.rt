@@ -1,6 +1,6 @@
 //! The actors of a phase.
 
-ghost use Rattle.std.specs.Prelude.{◌≡◌, ◌<◌, [], replicate, IfOk, IfSome, IsSome, OnOk, Some, length, slice_get};
+ghost use Rattle.std.specs.Prelude.{◌≡◌, ◌<◌, ◌≤◌, [], replicate, IfOk, IfSome, IsSome, OnOk, Some, length, slice_get};
 ghost use Rattle.std.specs.Borrow.{sem};
 ghost use Rattle.std.specs.List.{AllByRecursion};
 ghost use Rattle.std.specs.Option.{option_copied};
@@ -9,6 +9,7 @@ ghost use Rattle.core_actors.specs.Acting.{AreBeginning, idle, with_place};
 
 use crate::actor::Actor;
 use scen_text::Phase;
+use scen_words::MAX_COMMANDS;
 use std::alloc::{AllocError, Global};
 use std::marker::Model;
 
@@ -23,7 +24,7 @@ pub struct Actors {
 impl Model for Actors {
     ghost use Rattle.std.specs.Prelude.{List};
     ghost use Rattle.tap_world.specs.ByNumber.{with_nth};
-ghost use Rattle.core_actors.specs.Acting.{Acting};
+    ghost use Rattle.core_actors.specs.Acting.{Acting};
 
     ghost Value = { List Acting };
 
@@ -44,7 +45,8 @@ impl Actors {
 
     /// The actors of a phase as it begins, each of which has seen this version. In one pass over its lines.
     pub fn of_phase(alloc: Global, phase: &Phase, seen: u64) -> Result<Actors, AllocError>
-        requires { AllByRecursion (λ l. l.actor < phase.now.actors) phase.now.lines }
+        requires actors { AllByRecursion (λ l. l.actor < phase.now.actors) phase.now.lines }
+        requires few { length phase.now.lines ≤ MAX_COMMANDS }
         ensures { IfOk result (λ actors. AreBeginning phase.now seen actors) }
     {
         let mut actors = Actors::of(alloc, phase.actors, seen)?;
