@@ -3,6 +3,7 @@
 #![tactic(auto)]
 
 mod declared;
+mod numbered;
 mod opening;
 
 pub use opening::open;
