@@ -102,6 +102,6 @@ pub opened_from : (s : Setup) (d : Collected) (x : Shared) (capacities : List �
 opened_from s d x capacities is counts ops files guests vhosts hosted dropped writer phase =
     opened s x
     (ops ∙ ap (λ (cs : List ℕ). begun_at (first d.programs cs d.flows)) counts
-        ∙ ap (λ (e : Collected). begun_at (first e.programs (capacities_of e.files) e.flows)) is)
+    ∙ ap (λ (e : Collected). begun_at (first e.programs (capacities_of e.files) e.flows)) is)
     (files ∙ ap (λ (e : Collected). files_of e.files) is) (guests ∙ ap (λ (e : Collected). guests_of e.guests) is)
     (vhosts ∙ ap (λ (e : Collected). sides_of e.vhosts) is) hosted dropped writer phase

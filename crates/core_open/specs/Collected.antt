@@ -30,6 +30,10 @@ collected s = record {
   flows = s.flows;
 }
 
+-- What was collected of any set-up is now that of the set-up with more.
+abbrev pub Follows : (Setup → Setup) → Collected → Collected → Type 0
+Follows more old new = (s : Setup) → old ≡ collected s → new ≡ collected (more s)
+
 -- ---- what a run begins with
 
 -- a file that was declared so, with no frame

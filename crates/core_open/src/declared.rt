@@ -1,10 +1,10 @@
 //! What the declarations of a scenario lay down, collected in one pass over them.
 
 ghost use Rattle.std.specs.Prelude.{◌≡◌, ◌++◌, ◌∷◌, [], IfOk, OnOk, fold, slice_set, unwrap_or};
-ghost use Rattle.core_open.specs.Collected.{collected};
+ghost use Rattle.core_open.specs.Collected.{Follows, collected};
 ghost use Rattle.scen_text.specs.declared.scenario.Scenario.{Scenario as Text};
 ghost use Rattle.tap_world.specs.ByNumber.{at, put_at};
-ghost use Rattle.tap_world.specs.Setup.{Setup, nothing_of, setup_of, with_declaration};
+ghost use Rattle.tap_world.specs.Setup.{nothing_of, setup_of, with_declaration};
 
 use crate::numbered::{put, take};
 use ebpf_code::{Program, accept, encode};
@@ -65,11 +65,11 @@ impl Model for Declared {
     ghost Value = { Collected };
 
     ghost view = { λ d. record {
-        files = d.files.items;
-        guests = d.guests.items;
-        vhosts = d.vhosts.items;
-        programs = d.programs.items;
-        flows = d.flows.items;
+      files = d.files.items;
+      guests = d.guests.items;
+      vhosts = d.vhosts.items;
+      programs = d.programs.items;
+      flows = d.flows.items;
     } };
 }
 
@@ -95,8 +95,12 @@ fn nothing(alloc: Global) -> Result<Declared, AllocError>
     })
 }
 
-fn add_all(so_far: &mut Declared, alloc: Global, declarations: &[Declaration]) -> Result<(), AllocError>
-    ensures { OnOk result ((s : Setup) → so_far.old ≡ collected s → so_far.new ≡ collected (fold with_declaration s declarations.now)) }
+fn add_all(
+    so_far: &mut Declared,
+    alloc: Global,
+    declarations: &[Declaration],
+) -> Result<(), AllocError>
+    ensures { OnOk result (Follows (λ s. fold with_declaration s declarations.now) so_far.old so_far.new) }
 {
     for declaration in declarations {
         so_far.add(alloc, declaration)?;
@@ -107,7 +111,7 @@ fn add_all(so_far: &mut Declared, alloc: Global, declarations: &[Declaration]) -
 impl Declared {
     // With one declaration more.
     fn add(&mut self, alloc: Global, declaration: &Declaration) -> Result<(), AllocError>
-        ensures { OnOk result ((s : Setup) → self.old ≡ collected s → self.new ≡ collected (with_declaration s declaration.now)) }
+        ensures { OnOk result (Follows (λ s. with_declaration s declaration.now) self.old self.new) }
     {
         match declaration {
             Declaration::File {
@@ -140,7 +144,7 @@ impl Declared {
     // A guest's next region.
     fn add_region(&mut self, alloc: Global, guest: u16, region: Region) -> Result<(), AllocError>
         ensures { OnOk result (self.new ≡ record self.old {
-            guests = put_at guest (unwrap_or (at self.old.guests guest) [] ++ region ∷ []) self.old.guests;
+          guests = put_at guest (unwrap_or (at self.old.guests guest) [] ++ region ∷ []) self.old.guests;
         }) }
     {
         let mut regions = match take(&mut self.guests, guest) {

@@ -5,5 +5,7 @@
 mod declared;
 mod numbered;
 mod opening;
+#[cfg(test)]
+mod tests;
 
 pub use opening::open;

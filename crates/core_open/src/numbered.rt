@@ -6,7 +6,11 @@ ghost use Rattle.tap_world.specs.ByNumber.{at, put_at};
 use std::alloc::AllocError;
 
 /// Puts one in the place of its number, past all that are there too.
-pub(crate) fn put<T: Drop>(items: &mut Vec<Option<T>>, number: u16, new: T) -> Result<(), AllocError>
+pub(crate) fn put<T: Drop>(
+    items: &mut Vec<Option<T>>,
+    number: u16,
+    new: T,
+) -> Result<(), AllocError>
     ensures { OnOk result (items.new.items ≡ put_at number new items.old.items) }
 {
     reach(items, number)?;

@@ -1,7 +1,8 @@
 //! Where a run begins.
 
 ghost use Rattle.std.specs.Prelude.{◌≡◌, ◌∷◌, ◌++◌, ◌≤◌, [], IfOk, IfSome, None, OnOk, option_map};
-ghost use Rattle.core_open.specs.Collected.{AreMemories, HaveFirsts, capacities_of, capacity_of, files_of, guests_of, new_placed, sides_of};
+ghost use Rattle.core_open.specs.Collected.{AreMemories, HaveFirsts};
+ghost use Rattle.core_open.specs.Collected.{capacities_of, capacity_of, files_of, guests_of, new_placed, sides_of};
 ghost use Rattle.core_open.specs.Opening.{IsOpening};
 ghost use Rattle.guest_mem.specs.Regions.{refusal};
 ghost use Rattle.scen_laid.specs.Laid.{IsLaid};
