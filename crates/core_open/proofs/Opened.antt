@@ -53,17 +53,26 @@ none_backed rs false h = absurd (false≢true h)
 new_is_in : (rs : List Region) (guest : ℕ) → IsIn rs (new_side guest)
 new_is_in rs guest = record { good = none_backed rs; rx_driver = tt; tx_driver = tt; rx = tt; tx = tt }
 
+-- what is so of all is so of one that may be there
 if_some : {A : Type 0} (o : Option A) (P : A → Type 0) → ((x : A) → P x) → IfSome o P
 if_some None P h = tt
 if_some (Some x) P h = h x
 
-no_frames : (s : Setup) (xs : List (Option Declared)) (file i : ℕ) (p : Placed) (frame : FrameValue) → at (files_of xs) file ≡ Some p
-    → slice_get p.frames i ≡ Some (Some frame) → IsSent s frame
+-- a file as it begins has no frame
+no_frames : (s : Setup) (xs : List (Option Declared)) (file i : ℕ) (p : Placed) (frame : FrameValue)
+    → at (files_of xs) file ≡ Some p → slice_get p.frames i ≡ Some (Some frame) → IsSent s frame
 no_frames s xs file i p frame here is =
-    absurd (each_new (λ (p : Placed). slice_get p.frames i ≡ Some (Some frame) → ⊥) new_placed (λ d e. cc) xs file p here is)
+    absurd
+    (each_new (λ (p : Placed). slice_get p.frames i ≡ Some (Some frame) → ⊥) new_placed (λ d e. cc) xs file p here is)
 
-pub opened : (s : Setup) (x : Shared) → x.ops ≡ record { table = opening_table s; ops = [] } → x.files ≡ files_of s.files
-    → x.guests ≡ guests_of s.guests → x.vhosts ≡ sides_of s.vhosts → x.hosted.items ≡ [] → x.dropped.items ≡ []
+-- ---- both
+
+-- a table before any operation
+abbrev pub begun_at : Table → Told
+begun_at t = record { table = t; ops = [] }
+
+-- what a run begins in, from its parts
+opened : (s : Setup) (x : Shared) → x.ops ≡ begun_at (opening_table s) → x.files ≡ files_of s.files → x.guests ≡ guests_of s.guests → x.vhosts ≡ sides_of s.vhosts → x.hosted.items ≡ [] → x.dropped.items ≡ []
     → x.writer ≡ None → x.phase ≡ 0 → IsOpening s x
 opened s x ops files guests vhosts hosted dropped writer phase = record {
   world = λ i. record {
@@ -88,15 +97,13 @@ opened s x ops files guests vhosts hosted dropped writer phase = record {
   };
 }
   where
-    in_any : (guest : ℕ) (v : Side) → ((rs : List Region) → IsIn rs v) → IfSome (at x.guests guest) (λ g. IsIn g.memory.regions v)
+    in_any : (guest : ℕ) (v : Side) → ((rs : List Region) → IsIn rs v)
+        → IfSome (at x.guests guest) (λ g. IsIn g.memory.regions v)
     in_any guest v h = if_some (at x.guests guest) (λ g. IsIn g.memory.regions v) (λ g. h g.memory.regions)
-
-abbrev pub begun_at : Table → Told
-begun_at t = record { table = t; ops = [] }
 
 -- the same over what was collected
 pub opened_from : (s : Setup) (d : Collected) (x : Shared) (capacities : List ℕ) → d ≡ collected s
-    → capacities ≡ capacities_of d.files → x.ops ≡ record { table = first d.programs capacities d.flows; ops = [] }
+    → capacities ≡ capacities_of d.files → x.ops ≡ begun_at (first d.programs capacities d.flows)
     → x.files ≡ files_of d.files → x.guests ≡ guests_of d.guests → x.vhosts ≡ sides_of d.vhosts
     → x.hosted.items ≡ [] → x.dropped.items ≡ [] → x.writer ≡ None → x.phase ≡ 0 → IsOpening s x
 opened_from s d x capacities is counts ops files guests vhosts hosted dropped writer phase =
