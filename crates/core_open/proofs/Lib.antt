@@ -1,0 +1,3 @@
+mod Folding
+mod Opened
+mod Putting
