@@ -1,18 +1,16 @@
 //! How a transmit turn begins.
 
-ghost use Rattle.std.specs.Prelude.{◌≡◌, IfOk, IfSome, Some};
+ghost use Rattle.std.specs.Prelude.{◌≡◌, [], IfOk, IfSome, OnOk};
 ghost use Rattle.core_shared.specs.declared.doing.Doing.TheVariants as doing;
-ghost use Rattle.core_shared.specs.Asking.{Asking};
-ghost use Rattle.core_shared.specs.Did.{Did, Went};
-ghost use Rattle.core_shared.specs.MayDo.{MayDo, MayGo};
+ghost use Rattle.core_shared.specs.declared.onward.Onward.TheVariants as on;
+ghost use Rattle.core_shared.specs.Did.{Went};
+ghost use Rattle.core_shared.specs.MayDo.{MayGo};
+ghost use Rattle.core_transmit.specs.Stepping.{BeganSo, Begins, IsThere, MayBegin, OnVhost, Tells};
 ghost use Rattle.scen_words.specs.declared.command.Command.TheVariants as command;
+ghost use Rattle.tap_trace.specs.declared.answer.Answer.TheVariants as answer;
 ghost use Rattle.tap_world.specs.ByNumber.{at};
-ghost use Rattle.tap_world.specs.declared.event.EventKind.TheVariants as event;
-ghost use Rattle.tap_world.specs.StepTurns.{is_off};
-ghost use Rattle.vhost_dev.specs.Settings.{hdr_of};
-ghost use Rattle.vring_turns.specs.TxTurn.{tx_begun};
-ghost use Rattle.core_transmit.specs.Stepping.{Begins};
 
+use crate::telling::tell;
 use crate::words::kind_of;
 use core_shared::{Asked, Doing, Onward, Shared};
 use sqlite_items::Items;
@@ -48,16 +46,11 @@ fn find_off(
     end: TurnText,
     kind: Kind,
 ) -> Result<Onward, AllocError>
-    requires command { asked.now.command ≡ command.TxTurn vhost }
-    requires may { MayDo asked.now doing.Begun event.Owner shared.old }
-    requires told { IfSome (at shared.old.vhosts vhost) (λ s. is_off vhost 1 s.vhost ≡ Some (end, kind)) }
-    ensures did { IfOk result (λ on. Did asked.now doing.Begun event.Owner shared.old shared.new on) }
+    requires there { IsThere vhost shared.old }
+    ensures tells { OnOk result (Tells asked.now vhost kind shared.old shared.new) }
+    ensures ends { IfOk result (λ o. o ≡ on.Ends asked.now.seen (answer.Turn 0 0 end [])) }
 {
-    let guest = shared.vhosts.side(vhost).guest();
-    shared
-        .guests
-        .guest_mut(guest)
-        .tell(asked.actor(), asked.number(), Some(kind))?;
+    tell(shared, asked, vhost, kind)?;
     Ok(Onward::Ends {
         seen: asked.seen(),
         answer: Answer::Turn {
@@ -76,18 +69,14 @@ fn begin(
     asked: &Asked<'_>,
     vhost: u16,
 ) -> Result<Onward, AllocError>
-    requires command { asked.now.command ≡ command.TxTurn vhost }
-    requires may { MayDo asked.now doing.Begun event.Notices shared.old }
-    ensures did { IfOk result (λ on. Did asked.now doing.Begun event.Notices shared.old shared.new on) }
+    requires there { IsThere vhost shared.old }
+    requires free { IfSome (at shared.old.vhosts vhost) MayBegin }
+    ensures { IfOk result (λ on. BeganSo asked.now vhost shared.old shared.new on) }
 {
     let act = first_step(shared, alloc, asked, vhost)?;
-    let side = shared.vhosts.side(vhost);
-    let file = side.dev().backend(false).unwrap();
+    let file = shared.vhosts.side(vhost).dev().backend(false).unwrap();
     let kind = kind_of(vhost, act).unwrap();
-    shared
-        .guests
-        .guest_mut(side.guest())
-        .tell(asked.actor(), asked.number(), Some(kind))?;
+    tell(shared, asked, vhost, kind)?;
     Ok(Onward::Goes {
         seen: asked.seen(),
         doing: Doing::Transmits {
@@ -106,9 +95,9 @@ fn first_step(
     asked: &Asked<'_>,
     vhost: u16,
 ) -> Result<Act, AllocError>
-    requires command { asked.now.command ≡ command.TxTurn vhost }
-    requires may { MayDo asked.now doing.Begun event.Notices shared.old }
-    ensures begins { IfOk result (λ act. Begins asked.now vhost act shared.old shared.new) }
+    requires there { IsThere vhost shared.old }
+    requires free { IfSome (at shared.old.vhosts vhost) MayBegin }
+    ensures { IfOk result (λ act. OnVhost vhost (Begins asked.now act) shared.old shared.new) }
 {
     let side = shared.vhosts.side_mut(vhost);
     let guest = shared.guests.guest_mut(side.guest());

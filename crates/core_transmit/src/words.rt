@@ -80,7 +80,7 @@ pub(crate) fn add_chain(
     held: Option<&Frame>,
 ) -> Result<(), AllocError>
     requires whole { IfSome (option_copied held) (λ f. f.mark ≡ length f.made) }
-    ensures { OnOk result (chains.new.items ≡ chains_after act (option_copied held) chains.old.items) }
+    ensures { OnOk result (chains.new.items ≡ chains_after act (option_copied held.entry) chains.old.items) }
 {
     match act {
         Act::Refused { position, bad } => chains.push(ChainText::Refused { position, bad })?,
