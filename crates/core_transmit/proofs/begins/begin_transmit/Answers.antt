@@ -1,5 +1,5 @@
 use Rattle.std.proofs.Common.{refl}
-use Rattle.core_transmit.proofs.Made.{step_did}
+use Rattle.core_transmit.proofs.Beginning.{began_did}
 use Rattle.core_transmit.proofs.begins.begin_transmit.Goals as goal
 
 pub side-requires : goal.side-requires
