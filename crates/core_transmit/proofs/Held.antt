@@ -16,7 +16,7 @@ use Rattle.vring_turns.specs.declared.stage.TxStage.TheVariants as tx
 use Rattle.vring_turns.specs.Ring.{Gathered, Made, fetches, first_position, publishes}
 use Rattle.vring_turns.specs.Stage.{is_giving, tx_is_over}
 use Rattle.vring_turns.specs.TransmitBytes.{bytes_of_chain, refusal_of}
-use Rattle.vring_turns.specs.TxTurn.{TxState, TxTurn, tx_copies, tx_done, tx_gives, tx_judged, tx_made, tx_next, tx_ring}
+use Rattle.vring_turns.specs.TxTurn.{TxState, TxTurn, tx_after_notices, tx_copies, tx_done, tx_gives, tx_judged, tx_made, tx_next, tx_ring}
 use Rattle.core_transmit.specs.Stepping.{held_in}
 
 -- ---- before a step that gives none
@@ -89,11 +89,11 @@ copied_whole (c ∷ cs) s none =
     (refusal_of s.turn.header (bytes_of_chain s.turn.header s.memory c)) (tx_done c s) none
 
 pub held_whole : (st : TxStage) (s : TxState) → s.turn.held ≡ None → WhereSome HeldWhole (tx_next st s)
-held_whole tx.Begin s none = none_whole _ s.turn.held none
+held_whole tx.Begin s none = none_whole tx.Fetch s.turn.held none
 held_whole tx.Fetch s none = fetched_whole _ s none
-held_whole tx.NoticesOn s none = none_whole _ s.turn.held none
+held_whole tx.NoticesOn s none = none_whole tx.FetchAgain s.turn.held none
 held_whole tx.FetchAgain s none = fetched_whole _ s none
-held_whole (tx.NoticesOff fault) s none = none_whole _ s.turn.held none
+held_whole (tx.NoticesOff fault) s none = none_whole (tx_after_notices s.queue fault) s.turn.held none
 held_whole tx.Copy s none = copied_whole s.turn.chains s none
 held_whole tx.Give s none = subst (λ (o : Option FrameValue). WhereSome HeldWhole (tx_gives o s)) (sym none) tt
 held_whole (tx.Publish end) s none = published_whole (publishes (tx_ring s) s.memory) end s none

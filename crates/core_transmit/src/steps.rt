@@ -22,7 +22,7 @@ use tap_guests::VhostSide;
 use tap_ledger::Act;
 use tap_trace::{Answer, ChainText, Kind};
 use tap_world::Found;
-use vhost_step::TxDid;
+use vhost_step::{TxDid, gives_alone};
 use vring_turns::TurnEnd;
 
 /// The next event of a transmit turn of a vhost on a file, which has told this of its chains: the next step of the ring's
@@ -38,6 +38,7 @@ pub fn transmit(
     requires may { MayGo asked.now (doing.Transmits vhost file chains) shared.old }
     ensures went { IfOk result (λ on. Went asked.now (doing.Transmits vhost file chains) shared.old shared.new on) }
 {
+    gives_alone();
     let TxDid { act, given, over } = step(shared, vhost)?;
     match given {
         Some(frame) => give(shared, asked.seen(), vhost, file, chains, frame),
