@@ -165,7 +165,7 @@ module _ {a : Asking} {vhost file : ℕ} {chains : Chains} {kind : EventKind} {x
     holds : Holds over
     holds = held_by v.after (if is_some over then None else Some steps.turn) steps.worker
 
-    over_now : over ≡ option_map (λ (e : End). tx_report steps.turn e) (tx_over steps.turn.stage)
+    pub over_now : over ≡ option_map (λ (e : End). tx_report steps.turn e) (tx_over steps.turn.stage)
     over_now = steps.did ∙ over_by steps.turn.stage steps.turn
 
     holds_by : (p : Option End) → tx_over steps.turn.stage ≡ p → IfSome steps.turn.held (IsWhole steps.turn.stage)
@@ -176,61 +176,63 @@ module _ {a : Asking} {vhost file : ℕ} {chains : Chains} {kind : EventKind} {x
         subst Holds (over_now ∙ ap (λ (q : Option End). option_map (λ (z : End). tx_report steps.turn z) q) e) holds
         ∙ sym (over_holds_none steps.turn.stage y steps.turn.held e whole)
 
-    -- ---- a step that gives nothing
+  -- ---- a step that gives nothing
 
-    module _ (none : given ≡ None) where
-      held_before : turn.held ≡ None
-      held_before = none_held turn.stage turn (sym given_is ∙ none) sending.ready.held
+  module _ {told : Act} {over : Option TurnEnd} {mid : Shared} (v : OnVhost vhost (Goes told None over) x mid) where
+    abbrev pub now : TxSteps turn a.actor v.before v.guest.memory told None over v.after v.memory
+    now = steps v
 
-      gives_none : is_giving turn.stage ≡ false
-      gives_none = sym sending.ready.held ∙ ap (λ (o : Option FrameValue). is_some o) held_before
+    held_before : turn.held ≡ None
+    held_before = none_held turn.stage turn (sym (given_is v)) sending.ready.held
 
-      whole_now : IfSome steps.turn.held (IsWhole steps.turn.stage)
-      whole_now = where_some HeldWhole _ _
-          (held_whole turn.stage (tx_state turn v.before.vhost v.guest.memory) held_before) steps.step
+    gives_none : is_giving turn.stage ≡ false
+    gives_none = sym sending.ready.held ∙ ap (λ (o : Option FrameValue). is_some o) held_before
 
-      pub holds_now : held_in v.after ≡ steps.turn.held
-      holds_now = holds_by (tx_over steps.turn.stage) refl whole_now
+    whole_now : IfSome now.turn.held (IsWhole now.turn.stage)
+    whole_now = where_some HeldWhole _ _
+        (held_whole turn.stage (tx_state turn v.before.vhost v.guest.memory) held_before) now.step
 
-      pub whole_then : IfSome (at mid.vhosts vhost) (λ (s : Side). IfSome (held_in s) (λ f. f.mark ≡ length f.made))
-      whole_then = if_any (at mid.vhosts vhost) (λ (s : Side). IfSome (held_in s) (λ f. f.mark ≡ length f.made)) (λ s e.
-          let same : v.after ≡ s = some_same v.after s (sym (after_at v) ∙ e) in
-          if_any (held_in s) (λ f. f.mark ≡ length f.made) (λ f is.
-          (if_there steps.turn.held (IsWhole steps.turn.stage) f
-          (sym holds_now ∙ ap (λ (q : Side). held_in q) same ∙ is) whole_now).0))
+    holds_now : held_in v.after ≡ now.turn.held
+    holds_now = holds_by v (tx_over now.turn.stage) refl whole_now
 
-      abbrev pub steps_none : TxSteps turn a.actor v.before v.guest.memory told None over v.after v.memory
-      steps_none = subst (λ (o : Option FrameValue).
-          TxSteps turn a.actor v.before v.guest.memory told o over v.after v.memory) none steps
+    pub whole_then : IfSome (at mid.vhosts vhost) (λ (s : Side). IfSome (held_in s) (λ f. f.mark ≡ length f.made))
+    whole_then = if_any (at mid.vhosts vhost) (λ (s : Side). IfSome (held_in s) (λ f. f.mark ≡ length f.made)) (λ s e.
+        let same : v.after ≡ s = some_same v.after s (sym (after_at v) ∙ e) in
+        if_any (held_in s) (λ f. f.mark ≡ length f.made) (λ f is.
+        (if_there now.turn.held (IsWhole now.turn.stage) f
+        (sym holds_now ∙ ap (λ (q : Side). held_in q) same ∙ is) whole_now).0))
 
-      -- its row
-      steps_row : (actors : List Actor) (said : List Said) (rest : List Numbered)
-          → row (setup a) (world_in x actors said) kind a.actor (actor_at a so_far rest) a.number (command.TxTurn vhost)
-          ≡ tx_steps_on (world_in x actors said) a.actor a.seen vhost file turn chains.items v.before.vhost v.guest.memory
-      steps_row actors said rest =
-          let w = world_in x actors said in
-          by_stage turn.stage kind (setup a) w a.actor a.number (actor_at a so_far rest) vhost file turn chains.items
-          gives_none stage_next refl
-          ∙ ap (λ (q : Option Vhost). q >>= λ u. at x.guests u.guest >>= λ g.
-          tx_steps_on w a.actor a.seen vhost file turn chains.items u g.memory)
-          (vhost_at vhost x.vhosts v.before v.is_before)
-          ∙ ap (λ (q : Option Guest). q >>= λ g.
-          tx_steps_on w a.actor a.seen vhost file turn chains.items v.before.vhost g.memory) v.is_guest
+    -- its row
+    steps_row : (actors : List Actor) (said : List Said) (rest : List Numbered)
+        → row (setup a) (world_in x actors said) kind a.actor (actor_at a so_far rest) a.number (command.TxTurn vhost)
+        ≡ tx_steps_on (world_in x actors said) a.actor a.seen vhost file turn chains.items v.before.vhost v.guest.memory
+    steps_row actors said rest =
+        let w = world_in x actors said in
+        by_stage turn.stage kind (setup a) w a.actor a.number (actor_at a so_far rest) vhost file turn chains.items
+        gives_none stage_next refl
+        ∙ ap (λ (q : Option Vhost). q >>= λ u. at x.guests u.guest >>= λ g.
+        tx_steps_on w a.actor a.seen vhost file turn chains.items u g.memory)
+        (vhost_at vhost x.vhosts v.before v.is_before)
+        ∙ ap (λ (q : Option Guest). q >>= λ g.
+        tx_steps_on w a.actor a.seen vhost file turn chains.items v.before.vhost g.memory) v.is_guest
 
-      pub going_told : IsTold m vhost file turn chains.items told over m.suits.0 v steps_none
-      going_told = is_told m vhost file turn chains.items told over m.suits.0 v steps_none m.actors m.said m.event.effect
-          (sym (steps_row m.actors m.said m.rest) ∙ row_is m so_far (command.TxTurn vhost) come m.suits.0 kind refl)
+    pub going_told : IsTold m vhost file turn chains.items told over m.suits.0 v now
+    going_told = is_told m vhost file turn chains.items told over m.suits.0 v now m.actors m.said m.event.effect
+        (sym (steps_row m.actors m.said m.rest) ∙ row_is m so_far (command.TxTurn vhost) come m.suits.0 kind refl)
 
-      pub going_words : IfSome over (λ r. is_some (end_told r.end) ≡ true)
-      going_words = words_told m vhost file turn chains.items told over m.suits.0 v steps_none going_told
+    pub going_kind : is_some (kind_of vhost 1 told) ≡ true
+    going_kind = ap (λ o. is_some o) going_told.2
 
-      pub going_did : {new : Shared} (o : shared.Onward) → WentOn a vhost file chains.items told over mid new o
-          → Did a (doing.Transmits vhost file chains) kind x new o
-      going_did o w =
-          let side : w.tells.side ≡ v.after = some_same w.tells.side v.after (sym w.tells.is_side ∙ after_at v) in
-          step_did m vhost file turn chains.items told over m.suits.0 v steps_none
-          (w.kind, going_told.1, w.is_kind, going_told.3) w.tells w.more o
-          (w.is_more ∙ ap (λ (h : Option FrameValue). chains_after told h chains.items)
-          (ap (λ (q : Side). held_in q) side ∙ holds_now))
-          w.onward so_far come kind refl (λ actors said. stage_next) steps_row
-          (own_tx a.actor v.before v.after (transmits_holds m v.before v.is_before))
+    pub going_words : IfSome over (λ r. is_some (end_told r.end) ≡ true)
+    going_words = words_told m vhost file turn chains.items told over m.suits.0 v now going_told
+
+    pub going_did : {new : Shared} (o : shared.Onward) → WentOn a vhost file chains.items told over mid new o
+        → Did a (doing.Transmits vhost file chains) kind x new o
+    going_did o w =
+        let side : w.tells.side ≡ v.after = some_same w.tells.side v.after (sym w.tells.is_side ∙ after_at v) in
+        step_did m vhost file turn chains.items told over m.suits.0 v now
+        (w.kind, going_told.1, w.is_kind, going_told.3) w.tells w.more o
+        (w.is_more ∙ ap (λ (h : Option FrameValue). chains_after told h chains.items)
+        (ap (λ (q : Side). held_in q) side ∙ holds_now))
+        w.onward so_far come kind refl (λ actors said. stage_next) steps_row
+        (own_tx a.actor v.before v.after (transmits_holds m v.before v.is_before))
