@@ -1,5 +1,5 @@
 -- This project's own: what an operation names is there, and what a command that holds the writer publishes is lawful.
-use Rattle.std.proofs.Common.{◌≡◌, ℕ, zero, suc, ◌<◌, ◌≤◌, List, [], ◌∷◌, length, map, Bool, true, false, cond, Option, Some, None, inl, inr, refl, sym, ap, ◌∙◌, subst, true≢false, arith}
+use Rattle.std.proofs.Common.{◌≡◌, ℕ, suc, ◌<◌, ◌≤◌, List, [], ◌∷◌, length, map, Bool, true, false, cond, Option, Some, None, inl, inr, refl, sym, ap, ◌∙◌, subst, true≢false, arith}
 use Rattle.std.proofs.lemmas.Bool.Decides.{eqb_tells}
 use Rattle.std.specs.Prelude.{◌==◌, IfSome, IsSome, fold, slice_get}
 use Rattle.std.specs.Option.{option_map_or}
@@ -12,7 +12,6 @@ use Rattle.scen_words.specs.declared.declaration.Declaration.TheVariants as decl
 use Rattle.scen_text.specs.declared.scenario.Scenario.{Scenario}
 use Rattle.text_fields.specs.Forms.{FitForm}
 use Rattle.tap_ledger.specs.declared.side.Side.{Side}
-use Rattle.tap_lines.specs.Placed.{Placed}
 use Rattle.tap_steer.specs.After.{after, after_all, attach_queue, detach_queue, disabled, enabled, back, learn, learn_at, left, resize, set_at, set_device, set_iff, shut, tick}
 use Rattle.tap_steer.specs.Named.{IsFile, IsNamed}
 use Rattle.tap_steer.specs.Rules.{refuse}
@@ -30,7 +29,7 @@ use Rattle.tap_world.specs.Setup.{NamesDeclared, Numbered, Setup, nothing_of, op
 use Rattle.tap_world.specs.Sound.{holds}
 use Rattle.tap_world.specs.SoundTable.{commanded, writer_of, writing}
 use Rattle.tap_world.specs.Steady.{to_publish}
-use Rattle.tap_world.specs.World.{Actor, Doing as WorldDoing, World, current, table}
+use Rattle.tap_world.specs.World.{Actor, Doing as WorldDoing, current, table}
 use Rattle.tap_world.specs.World.Doing.{Begun}
 use Rattle.tap_world.specs.declared.event.EventKind.{EventKind}
 use Rattle.tap_world.specs.declared.told.Published.{Published}

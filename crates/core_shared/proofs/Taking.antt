@@ -1,6 +1,6 @@
 -- This project's own: what may be used where an event may be done.
-use Rattle.std.proofs.Common.{◌≡◌, ℕ, zero, suc, ◌+◌, ◌<◌, lit<, List, [], ◌∷◌, ◌++◌, length, map, Bool, true, false, Option, Some, None, refl, sym, ap, ◌∙◌, subst, true≢false, eq-eqb, inl, inr, arith}
-use Rattle.std.specs.Prelude.{◌==◌, ◌&&◌, IfSome, IsSome, MatchOption, flat_map, fold, is_some, option_map, slice_get}
+use Rattle.std.proofs.Common.{◌≡◌, ℕ, zero, suc, ◌+◌, ◌<◌, lit<, List, [], ◌∷◌, ◌++◌, length, Bool, true, false, Option, Some, None, refl, sym, ap, ◌∙◌, subst, true≢false, eq-eqb, inl, inr, arith}
+use Rattle.std.specs.Prelude.{◌==◌, ◌&&◌, IsSome, MatchOption, flat_map, fold, is_some, option_map, slice_get}
 use Rattle.std.specs.Option.{option_map_or}
 use Rattle.std.specs.List.{AllByRecursion}
 use Rattle.std.proofs.lemmas.Bool.Decides.{eqb_tells}
@@ -26,14 +26,13 @@ use Rattle.tap_guests.specs.Within.{IsIn}
 use Rattle.tap_lines.specs.Files.{files_of}
 use Rattle.tap_lines.specs.Placed.{MayChange, Placed}
 use Rattle.tap_world.specs.declared.event.EventKind.{EventKind}
-use Rattle.tap_world.specs.ByNumber.{at, with_at}
+use Rattle.tap_world.specs.ByNumber.{at}
 use Rattle.tap_world.specs.Effect.{Effect, files_after}
 use Rattle.tap_world.specs.Effect.OnFiles.{OnFile}
-use Rattle.tap_world.specs.Frames.{FrameText}
 use Rattle.tap_world.specs.Guests.{Guest, Vhost, turn_of}
 use Rattle.tap_world.specs.Line.{File}
 use Rattle.tap_world.specs.LineSteps.{Change, changed}
-use Rattle.tap_world.specs.Setup.{Declared, NamesDeclared, Numbered, Setup, frame_sent, line_of, nothing_of, sent_by, setup_of, with_declaration}
+use Rattle.tap_world.specs.Setup.{Declared, NamesDeclared, Setup, frame_sent, line_of, nothing_of, sent_by, setup_of, with_declaration}
 use Rattle.tap_world.specs.SoundRings.{holds_turn, is_about, ring_in}
 use Rattle.tap_world.specs.Steady.{file_in}
 use Rattle.tap_world.specs.Step.{row}
@@ -45,7 +44,7 @@ use Rattle.tap_sound.proofs.Kit.{some_same, then_some}
 use Rattle.vring_turns.specs.RxTurn.{RxTurn}
 use Rattle.vring_turns.specs.TxTurn.{TxTurn}
 use Rattle.core_shared.specs.Asking.{Asking, setup}
-use Rattle.core_shared.specs.Coming.{at_rx, at_tx, come_of, host_frame, rx_turn_in, tx_turn_in}
+use Rattle.core_shared.specs.Coming.{come_of, host_frame, rx_turn_in, tx_turn_in}
 use Rattle.core_shared.specs.MayDo.{MayDo, actor_at}
 use Rattle.core_shared.specs.Worlds.{vhosts_of, world_in}
 use Rattle.core_shared.specs.declared.doing.Doing.{Doing}
@@ -117,7 +116,7 @@ about_there {a = a} {d = d} {x = x} m file e =
 
 -- ---- what a command names
 
-all_at : {A : Type 0} (P : A → Type 0) (xs : List A) (i : ℕ) (x : A) → AllByRecursion P xs → slice_get xs i ≡ Some x → P x
+pub all_at : {A : Type 0} (P : A → Type 0) (xs : List A) (i : ℕ) (x : A) → AllByRecursion P xs → slice_get xs i ≡ Some x → P x
 all_at P [] i x h e = absurd (cc (e))
 all_at P (y ∷ ys) zero x h e = subst P (some_same y x e) h.0
 all_at P (y ∷ ys) (suc i) x h e = all_at P ys i x h.1 e
@@ -198,7 +197,7 @@ folded_phases : (ds : List Declaration) (s : Setup) → (fold with_declaration s
 folded_phases [] s = refl
 folded_phases (d ∷ ds) s = folded_phases ds (with_declaration s d) ∙ declared_phases d s
 
-phases_are : (s : Scenario) → (setup_of s).phases ≡ s.phases
+pub phases_are : (s : Scenario) → (setup_of s).phases ≡ s.phases
 phases_are s = folded_phases s.declarations (nothing_of s)
 
 -- the line of the command's number is its own
@@ -246,7 +245,7 @@ may_change_by m r file change p e is_row is = may_change m file change p e (ap (
 
 -- ---- who holds a ring's turn
 
-option_is : (o : Option ℕ) (n : ℕ) → true ≡ option_map_or (λ (k : ℕ). k == n) o false → o ≡ Some n
+pub option_is : (o : Option ℕ) (n : ℕ) → true ≡ option_map_or (λ (k : ℕ). k == n) o false → o ≡ Some n
 option_is None n e = absurd (true≢false e)
 option_is (Some k) n e = elim (eqb_tells k n) [ inl t ↦ ap Some t.1 | inr t ↦ absurd (true≢false (e ∙ t.0)) ]
 
@@ -271,23 +270,23 @@ holds_no_turn {a = a} {d = d} {x = x} m vhost ring v below e holds =
     sym (m.sound.actors.turns vhost v.vhost (vhost_at vhost x.vhosts v e) ring a.actor (actor_at a (come_of x.vhosts d) m.rest) below m.is_actor)
     ∙ ap (λ (b : Bool). b && is_about vhost ring (Some (record { number = a.number; command = a.command }))) holds
 
-about_ring : (vhost ring : ℕ) → option_map_or (λ (r : ℕ × ℕ). r.0 == vhost && r.1 == ring) (Some (vhost, ring)) false ≡ true
+pub about_ring : (vhost ring : ℕ) → option_map_or (λ (r : ℕ × ℕ). r.0 == vhost && r.1 == ring) (Some (vhost, ring)) false ≡ true
 about_ring vhost ring =
     ap (λ (b : Bool). b && ring == ring) (eq-eqb vhost vhost refl) ∙ eq-eqb ring ring refl
 
-about_rx : (a : Asking) (vhost : ℕ) → a.command ≡ command.RxTurn vhost → IsAbout a vhost 0
+pub about_rx : (a : Asking) (vhost : ℕ) → a.command ≡ command.RxTurn vhost → IsAbout a vhost 0
 about_rx a vhost e =
     ap (λ (c : Command). option_map_or (λ (r : ℕ × ℕ). r.0 == vhost && r.1 == 0) (ring_in c) false) e ∙ about_ring vhost 0
 
-about_tx : (a : Asking) (vhost : ℕ) → a.command ≡ command.TxTurn vhost → IsAbout a vhost 1
+pub about_tx : (a : Asking) (vhost : ℕ) → a.command ≡ command.TxTurn vhost → IsAbout a vhost 1
 about_tx a vhost e =
     ap (λ (c : Command). option_map_or (λ (r : ℕ × ℕ). r.0 == vhost && r.1 == 1) (ring_in c) false) e ∙ about_ring vhost 1
 
-rx_holds : (o : Option RxTurn) (file : ℕ) → IsSome o → holds_turn (option_map_or (come.Doing.Receives file) o come.Doing.Begun) ≡ true
+pub rx_holds : (o : Option RxTurn) (file : ℕ) → IsSome o → holds_turn (option_map_or (come.Doing.Receives file) o come.Doing.Begun) ≡ true
 rx_holds None file h = absurd (true≢false (sym h))
 rx_holds (Some t) file h = refl
 
-tx_holds : (o : Option TxTurn) (so_far : TxTurn → come.Doing) → ((t : TxTurn) → holds_turn (so_far t) ≡ true) → IsSome o
+pub tx_holds : (o : Option TxTurn) (so_far : TxTurn → come.Doing) → ((t : TxTurn) → holds_turn (so_far t) ≡ true) → IsSome o
     → holds_turn (option_map_or so_far o come.Doing.Begun) ≡ true
 tx_holds None so_far each h = absurd (true≢false (sym h))
 tx_holds (Some t) so_far each h = each t
