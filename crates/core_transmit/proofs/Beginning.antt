@@ -1,6 +1,6 @@
 -- This project's own: the first event of a transmit turn.
 use Rattle.std.proofs.Common.{◌≡◌, ℕ, Bool, true, false, List, [], Option, Some, None, refl, sym, ap, ◌∙◌, subst, true≢false}
-use Rattle.std.specs.Prelude.{if◌then◌else◌, ◌&&◌, is_none, is_some, IfSome, IsSome}
+use Rattle.std.specs.Prelude.{if◌then◌else◌, ◌&&◌, is_none, is_some, IsSome}
 use Rattle.std.specs.Option.{option_map_or}
 use Rattle.scen_words.specs.Commands.{vhost_of}
 use Rattle.scen_words.specs.declared.command.Command.{Command}
@@ -15,13 +15,12 @@ use Rattle.tap_ledger.specs.declared.act.Act.{Act}
 use Rattle.tap_sound.proofs.Kit.{only_some, some_same, then_some}
 use Rattle.tap_trace.specs.declared.answer.Answer.TheVariants as answer
 use Rattle.tap_trace.specs.declared.kind.Kind.{Kind}
-use Rattle.tap_trace.specs.declared.turn.ChainText.{ChainText}
 use Rattle.tap_trace.specs.declared.turn.TurnText.{TurnText}
 use Rattle.tap_world.specs.declared.event.EventKind.{EventKind}
 use Rattle.tap_world.specs.declared.event.EventKind.TheVariants as event
 use Rattle.tap_world.specs.declared.told.Said.{Said}
-use Rattle.tap_world.specs.ByNumber.{at, with_at}
-use Rattle.tap_world.specs.Effect.{Effect, only}
+use Rattle.tap_world.specs.ByNumber.{at}
+use Rattle.tap_world.specs.Effect.{Effect}
 use Rattle.tap_world.specs.Effect.Onward.{Ends}
 use Rattle.tap_world.specs.Guests.{Guest, Vhost, is_free}
 use Rattle.tap_world.specs.Scripts.{turn_first}
@@ -32,7 +31,6 @@ use Rattle.tap_world.specs.StepTurns.{is_off, kind_of, off_told}
 use Rattle.tap_world.specs.World as world
 use Rattle.tap_world.specs.World.{Actor, World, name_of}
 use Rattle.vhost_dev.specs.Settings.{hdr_of}
-use Rattle.vring_split.specs.declared.fault.RingFault.{RingFault}
 use Rattle.vring_turns.specs.declared.stage.TxStage.TheVariants as tx
 use Rattle.vring_turns.specs.Ring.{noticed}
 use Rattle.vring_turns.specs.TxTurn.{TxState, TxTurn, tx_begun, tx_made, tx_ring}

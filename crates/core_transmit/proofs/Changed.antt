@@ -1,10 +1,9 @@
 -- This project's own: what is there after a vhost and the memory of its guest changed.
-use Rattle.std.proofs.Common.{◌≡◌, ℕ, Option, Some, None, sym, ap, ◌∙◌}
+use Rattle.std.proofs.Common.{◌≡◌, ℕ, Some, ap, ◌∙◌}
 use Rattle.guest_mem.specs.Memory.{Contents}
 use Rattle.tap_guests.specs.Lending.{with_memory}
 use Rattle.tap_guests.specs.Side.{Side}
 use Rattle.tap_world.specs.ByNumber.{at, with_at}
-use Rattle.tap_world.specs.Guests.{Guest}
 use Rattle.core_shared.specs.declared.shared.Shared.{Shared}
 use Rattle.core_shared.proofs.Kit.{with_at_here}
 use Rattle.core_transmit.specs.Stepping.{IsThere, OnVhost}

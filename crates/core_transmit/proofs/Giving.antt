@@ -1,5 +1,5 @@
 -- This project's own: an event of a transmit turn that gives a frame to the host.
-use Rattle.std.proofs.Common.{◌≡◌, ℕ, ◌<◌, Bool, true, false, List, [], ◌∷◌, ◌++◌, Option, Some, None, refl, sym, ap, ◌∙◌, subst}
+use Rattle.std.proofs.Common.{◌≡◌, ℕ, ◌<◌, true, List, [], ◌∷◌, ◌++◌, Option, Some, None, refl, sym, ap, ◌∙◌, subst}
 use Rattle.std.specs.Prelude.{if◌then◌else◌, is_some, IfSome, option_map}
 use Rattle.std.specs.Option.{option_map_or}
 use Rattle.scen_words.specs.declared.command.Command.TheVariants as command
@@ -35,7 +35,7 @@ use Rattle.vring_turns.specs.Ring.{done_in}
 use Rattle.vring_turns.specs.Stage.{is_giving}
 use Rattle.vring_turns.specs.TxTurn.{TxState, TxTurn, tx_report, tx_step}
 use Rattle.core_shared.specs.Asking.{Asking, setup}
-use Rattle.core_shared.specs.Coming.{come_of, host_frame, tx_turn_in}
+use Rattle.core_shared.specs.Coming.{host_frame, tx_turn_in}
 use Rattle.core_shared.specs.Did.{Did}
 use Rattle.core_shared.specs.Held.{IsHeld}
 use Rattle.core_shared.specs.MayDo.{MayDo, actor_at}

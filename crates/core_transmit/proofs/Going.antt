@@ -1,9 +1,7 @@
 -- This project's own: an event of a transmit turn that is under way.
-use Rattle.std.proofs.Common.{◌≡◌, ℕ, ◌<◌, Bool, true, false, List, [], ◌∷◌, ◌++◌, length, Option, Some, None, refl, sym, ap, ◌∙◌, subst, true≢false}
-use Rattle.std.specs.Prelude.{if◌then◌else◌, is_some, IfSome, IsSome, Vec, option_map}
+use Rattle.std.proofs.Common.{◌≡◌, ℕ, true, false, List, length, Option, Some, None, refl, sym, ap, ◌∙◌, subst, true≢false}
+use Rattle.std.specs.Prelude.{if◌then◌else◌, is_some, IfSome, option_map}
 use Rattle.std.specs.Option.{option_map_or}
-use Rattle.std.specs.declared.alloc.Global.{Global}
-use Rattle.guest_mem.specs.Memory.{Contents}
 use Rattle.scen_words.specs.declared.command.Command.{Command}
 use Rattle.scen_words.specs.declared.command.Command.TheVariants as command
 use Rattle.tap_frame.specs.Frame.{FrameValue}
@@ -17,17 +15,15 @@ use Rattle.tap_world.specs.declared.event.EventKind.{EventKind}
 use Rattle.tap_world.specs.declared.event.EventKind.TheVariants as event
 use Rattle.tap_world.specs.declared.told.Said.{Said}
 use Rattle.tap_world.specs.ByNumber.{at}
-use Rattle.tap_world.specs.Effect.{Effect}
 use Rattle.tap_world.specs.Guests.{Guest, Vhost}
 use Rattle.tap_world.specs.Scripts.{tx_next_kind}
 use Rattle.tap_world.specs.Setup.{Numbered, Setup}
 use Rattle.tap_world.specs.Step.{row}
 use Rattle.tap_world.specs.Steady.{IsAtTurn, IsSending}
 use Rattle.tap_world.specs.StepTurns.{end_told, kind_of}
-use Rattle.tap_world.specs.StepTransmits.{chains_after, goes_on, on_turn, turns, tx_over, tx_state, tx_steps_on}
+use Rattle.tap_world.specs.StepTransmits.{chains_after, turns, tx_over, tx_state, tx_steps_on}
 use Rattle.tap_world.specs.World as world
 use Rattle.tap_world.specs.World.{Actor, World, name_of}
-use Rattle.vhost_queue.specs.Queue.{Queue}
 use Rattle.vhost_step.specs.Transmit.{tx_given}
 use Rattle.vhost_tx.specs.Worker.{Worker}
 use Rattle.vring_turns.specs.declared.end.End.{End}
@@ -47,7 +43,7 @@ use Rattle.core_shared.specs.declared.shared.Shared.{Shared}
 use Rattle.core_shared.proofs.Kit.{if_any, if_there, made_from, there, vhost_at}
 use Rattle.core_shared.proofs.Leaving.{own_tx}
 use Rattle.core_shared.proofs.Taking.{guest_of_there, lies_in, transmits_holds, tx_at, tx_vhost}
-use Rattle.core_transmit.proofs.Changed.{after_at, after_there}
+use Rattle.core_transmit.proofs.Changed.{after_at}
 use Rattle.core_transmit.proofs.Held.{HeldWhole, IsWhole, held_by, held_whole, none_held, over_holds_none}
 use Rattle.core_transmit.proofs.Made.{IsTold, is_told, over_by, step_did, words_told}
 use Rattle.core_transmit.proofs.Rows.{next_is, row_is}

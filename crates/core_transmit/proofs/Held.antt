@@ -1,6 +1,6 @@
 -- This project's own: the frame that a transmit turn holds before and after a step.
-use Rattle.std.proofs.Common.{◌≡◌, ℕ, Bool, true, false, List, [], ◌∷◌, length, Option, Some, None, refl, sym, ap, ◌∙◌, subst, true≢false}
-use Rattle.std.specs.Prelude.{if◌then◌else◌, is_some, IfSome, option_map}
+use Rattle.std.proofs.Common.{◌≡◌, ℕ, true, false, List, [], ◌∷◌, length, Option, Some, None, refl, sym, ap, ◌∙◌, subst, true≢false}
+use Rattle.std.specs.Prelude.{is_some, IfSome, option_map}
 use Rattle.tap_frame.specs.declared.reading.BadFrame.{BadFrame}
 use Rattle.tap_frame.specs.Frame.{FrameValue}
 use Rattle.tap_ground.specs.Options.{◌>>=◌}

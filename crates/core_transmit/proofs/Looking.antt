@@ -7,7 +7,6 @@ use Rattle.scen_words.specs.declared.command.Command.TheVariants as command
 use Rattle.tap_ground.specs.Options.{only_if}
 use Rattle.tap_lines.specs.Told.{told_more}
 use Rattle.tap_sound.proofs.Kit.{only_some, some_same}
-use Rattle.tap_steer.specs.declared.operation.Op.{Op}
 use Rattle.tap_steer.specs.declared.operation.Op.TheVariants as op
 use Rattle.tap_steer.specs.Named.{IsNamed}
 use Rattle.tap_steer.specs.Rules.{refuse}
@@ -25,7 +24,7 @@ use Rattle.tap_world.specs.World as world
 use Rattle.tap_world.specs.World.{newest, table}
 use Rattle.vring_turns.specs.TxTurn.{TxTurn}
 use Rattle.core_shared.specs.Asking.{Asking, setup}
-use Rattle.core_shared.specs.Coming.{at_tx, come_of, host_frame, onward_of, tx_turn_in}
+use Rattle.core_shared.specs.Coming.{come_of, host_frame, tx_turn_in}
 use Rattle.core_shared.specs.Did.{Did}
 use Rattle.core_shared.specs.MayDo.{MayDo}
 use Rattle.core_shared.specs.Suiting.{Suits}
@@ -37,7 +36,7 @@ use Rattle.core_shared.specs.declared.onward.Onward.TheVariants as on
 use Rattle.core_shared.specs.declared.shared.Shared.{Shared}
 use Rattle.core_shared.proofs.Kit.{there}
 use Rattle.core_shared.proofs.Leaving.{held_told, same_left, told_left, turns_same}
-use Rattle.core_shared.proofs.Named.{is_file, named_learn, table_is}
+use Rattle.core_shared.proofs.Named.{is_file, named_learn}
 use Rattle.core_shared.proofs.Taking.{about_there}
 use Rattle.core_transmit.proofs.Rows.{has_effect, next_is, row_is}
 

@@ -1,9 +1,8 @@
 -- This project's own: a step of a transmit turn that the guest of its vhost is told.
-use Rattle.std.proofs.Common.{◌≡◌, ℕ, Bool, true, false, List, [], ◌∷◌, Option, Some, None, refl, sym, ap, ◌∙◌, subst, true≢false}
+use Rattle.std.proofs.Common.{◌≡◌, ℕ, Bool, true, List, [], Option, Some, None, refl, sym, ap, ◌∙◌, subst}
 use Rattle.std.specs.Prelude.{if◌then◌else◌, is_some, IfSome, option_map}
 use Rattle.std.specs.Option.{option_map_or}
 use Rattle.guest_mem.specs.Memory.{Contents}
-use Rattle.scen_words.specs.declared.command.Command.{Command}
 use Rattle.scen_words.specs.declared.command.Command.TheVariants as command
 use Rattle.tap_ground.specs.Options.{◌>>=◌}
 use Rattle.tap_guests.specs.Lending.{with_memory}
@@ -20,15 +19,14 @@ use Rattle.tap_world.specs.declared.event.EventKind.{EventKind}
 use Rattle.tap_world.specs.declared.event.Found.TheVariants as found
 use Rattle.tap_world.specs.declared.told.Said.{Said}
 use Rattle.tap_world.specs.ByNumber.{at, with_at}
-use Rattle.tap_world.specs.Effect.{Effect, Onward, only}
-use Rattle.tap_world.specs.Effect.OnGuests.{OnGuest}
+use Rattle.tap_world.specs.Effect.{Effect}
 use Rattle.tap_world.specs.Effect.OnVhosts.{OnVhost}
 use Rattle.tap_world.specs.Effect.Onward.{Ends, Goes}
 use Rattle.tap_world.specs.Guests.{Guest, Vhost}
 use Rattle.tap_world.specs.Scripts.{next_kind}
 use Rattle.tap_world.specs.Setup.{Numbered}
 use Rattle.tap_world.specs.Step.{row}
-use Rattle.tap_world.specs.StepTransmits.{chains_after, tx_effect, tx_event, tx_onward, tx_over, tx_state, tx_steps_on}
+use Rattle.tap_world.specs.StepTransmits.{chains_after, tx_effect, tx_event, tx_onward, tx_over, tx_steps_on}
 use Rattle.tap_world.specs.StepTurns.{end_told, kind_of, left, over_told}
 use Rattle.tap_world.specs.World as world
 use Rattle.tap_world.specs.World.{Actor, World}
@@ -37,10 +35,10 @@ use Rattle.vring_turns.specs.declared.end.End.{End}
 use Rattle.vring_turns.specs.declared.end.TurnEnd.{TurnEnd}
 use Rattle.vring_turns.specs.declared.stage.TxStage.{TxStage}
 use Rattle.vring_turns.specs.declared.stage.TxStage.TheVariants as tx
-use Rattle.vring_turns.specs.TxTurn.{TxState, TxTurn, tx_report, tx_step}
+use Rattle.vring_turns.specs.TxTurn.{TxState, TxTurn, tx_report}
 use Rattle.core_shared.specs.Asking.{Asking, setup}
-use Rattle.core_shared.specs.Coming.{at_tx, come_of, onward_of, tx_turn_in, written_out}
-use Rattle.core_shared.specs.Did.{Did, HasEffect, IsLeft}
+use Rattle.core_shared.specs.Coming.{come_of, onward_of, tx_turn_in, written_out}
+use Rattle.core_shared.specs.Did.{Did, IsLeft}
 use Rattle.core_shared.specs.MayDo.{MayDo, actor_at}
 use Rattle.core_shared.specs.Suiting.{SuitsOn}
 use Rattle.core_shared.specs.Worlds.{world_in}

@@ -1,4 +1,4 @@
-use Rattle.std.proofs.Common.{◌≡◌, ℕ, Option, Some, is_some, sym, ap, ◌∙◌}
+use Rattle.std.proofs.Common.{◌≡◌, ℕ, Option, is_some, sym, ap, ◌∙◌}
 use Rattle.tap_guests.specs.Side.{Side}
 use Rattle.tap_sound.proofs.Kit.{some_same}
 use Rattle.tap_world.specs.World.{name_of}

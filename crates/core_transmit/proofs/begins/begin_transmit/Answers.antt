@@ -1,5 +1,4 @@
-use Rattle.std.proofs.Common.{◌≡◌, [], Option, Some, None, sym, ap, ◌∙◌}
-use Rattle.std.specs.Prelude.{IfSome}
+use Rattle.std.proofs.Common.{◌≡◌, [], sym, ap, ◌∙◌}
 use Rattle.tap_guests.specs.Side.{Side}
 use Rattle.tap_sound.proofs.Kit.{some_same}
 use Rattle.tap_trace.specs.declared.answer.Answer.TheVariants as answer

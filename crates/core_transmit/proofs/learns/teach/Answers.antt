@@ -5,7 +5,6 @@ use Rattle.tap_world.specs.declared.event.Found.TheVariants as found
 use Rattle.core_shared.specs.Did.{Did}
 use Rattle.core_shared.specs.declared.doing.Doing.TheVariants as doing
 use Rattle.core_shared.specs.declared.onward.Onward.TheVariants as on
-use Rattle.core_shared.specs.declared.shared.Shared.{Shared}
 use Rattle.core_transmit.proofs.Looking.{not_refused, published, taught_named, teaches_did}
 use Rattle.core_transmit.proofs.learns.teach.Goals as goal
 

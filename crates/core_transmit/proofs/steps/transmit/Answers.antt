@@ -1,4 +1,4 @@
-use Rattle.std.proofs.Common.{◌≡◌, ℕ, ◌∷◌, [], ◌++◌, Option, Some, None, sym, ap, ◌∙◌, subst}
+use Rattle.std.proofs.Common.{◌≡◌, ℕ, ◌∷◌, [], ◌++◌, Option, Some, None, sym, subst}
 use Rattle.tap_flow_key.specs.FlowKey.{hash}
 use Rattle.tap_frame.specs.Frame.{FrameValue}
 use Rattle.tap_world.specs.declared.event.Found.TheVariants as found
