@@ -87,7 +87,7 @@ module _ {a : Asking} {vhost file : ℕ} {chains : Chains} {kind : EventKind} {x
       now.vhost
       ∙ ap (λ (p : Option ℕ × Queue). with_turn 1 p.0 (with_queue 1 p.1 v.before.vhost)) (λ i. (
         (ap (λ (o : Option End). if is_some o then None else Some a.actor) goes
-        ∙ sym (transmits_holds m v.before v.is_before)) i,
+            ∙ sym (transmits_holds m v.before v.is_before)) i,
         alone.queue i,
       ))
 
@@ -104,10 +104,10 @@ module _ {a : Asking} {vhost file : ℕ} {chains : Chains} {kind : EventKind} {x
 
   vhosts_same : vhosts_of x.vhosts ≡ vhosts_of (with_at vhost v.after x.vhosts)
   vhosts_same = sym (
-    vhosts_with vhost v.after x.vhosts
-    ∙ ap (λ (u : Vhost). with_at vhost u (vhosts_of x.vhosts)) vhost_same
-    ∙ with_at_same vhost v.before.vhost (vhosts_of x.vhosts) (vhost_at vhost x.vhosts v.before v.is_before)
-  )
+      vhosts_with vhost v.after x.vhosts
+      ∙ ap (λ (u : Vhost). with_at vhost u (vhosts_of x.vhosts)) vhost_same
+      ∙ with_at_same vhost v.before.vhost (vhosts_of x.vhosts) (vhost_at vhost x.vhosts v.before v.is_before)
+      )
 
   -- ---- the row
 
@@ -170,25 +170,25 @@ module _ {a : Asking} {vhost file : ℕ} {chains : Chains} {kind : EventKind} {x
         (on.Goes a.seen (doing.Given vhost file chains kept) (found.Moved f.name))
     gives_did = subst (λ (q : Shared). Did a (doing.Transmits vhost file chains) kind x q
         (on.Goes a.seen (doing.Given vhost file chains kept) (found.Moved f.name))) (sym new_is) (record {
-      effect = r;
-      has = has_effect m (so_far m) (command.TxTurn vhost) (come m) m.suits.0 event.HostIn r is_host_in
-          (λ actors said. ap tx_next_kind is_give.0) gives_row;
-      left = record {
-        ops = no_more x.ops.ops;
-        files = refl;
-        guests = refl;
-        vhosts = vhosts_same;
-        hosted = hosted_is;
-        dropped = no_more x.dropped.items;
-        writer = refl;
-        phase = refl;
-      };
-      onward = sym (ap (λ (o : Option TxTurn). GoesOn a.seen
-      (option_map_or (λ t. world.Doing.Given file t chains.items (host_frame kept)) o world.Doing.Begun)
-      (found.Moved f.name)) works);
-      held = held_vhost (setup a) (record x { hosted = new.hosted }) vhost v.after held_same lies;
-      suits = (m.suits.0, is_there (tx_turn_in (with_at vhost v.after x.vhosts) vhost) now.turn works);
-      stay = turns_of_one a.actor vhost v.before v.after x.vhosts v.is_before
-          (same_rx a.actor v.before v.after (ap (λ (s : Side). s.rx) now.only))
-          (own_tx a.actor v.before v.after (transmits_holds m v.before v.is_before));
-    })
+          effect = r;
+          has = has_effect m (so_far m) (command.TxTurn vhost) (come m) m.suits.0 event.HostIn r is_host_in
+              (λ actors said. ap tx_next_kind is_give.0) gives_row;
+          left = record {
+            ops = no_more x.ops.ops;
+            files = refl;
+            guests = refl;
+            vhosts = vhosts_same;
+            hosted = hosted_is;
+            dropped = no_more x.dropped.items;
+            writer = refl;
+            phase = refl;
+          };
+          onward = sym (ap (λ (o : Option TxTurn). GoesOn a.seen
+              (option_map_or (λ t. world.Doing.Given file t chains.items (host_frame kept)) o world.Doing.Begun)
+              (found.Moved f.name)) works);
+          held = held_vhost (setup a) (record x { hosted = new.hosted }) vhost v.after held_same lies;
+          suits = (m.suits.0, is_there (tx_turn_in (with_at vhost v.after x.vhosts) vhost) now.turn works);
+          stay = turns_of_one a.actor vhost v.before v.after x.vhosts v.is_before
+              (same_rx a.actor v.before v.after (ap (λ (s : Side). s.rx) now.only))
+              (own_tx a.actor v.before v.after (transmits_holds m v.before v.is_before));
+        })

@@ -106,7 +106,7 @@ module _ (a : Asking) (vhosts : List (Option Side)) (vhost file : ℕ) (t : TxTu
       (Goes a.seen (world.Doing.Transmits file t more.items) (found.Step k) ≡ onward_of vhosts q) × SuitsOn vhosts a q)
       same (
         ap (λ (w : Option TxTurn). Goes a.seen
-        (option_map_or (λ u. world.Doing.Transmits file u more.items) w world.Doing.Begun) (found.Step k)) (sym works),
+            (option_map_or (λ u. world.Doing.Transmits file u more.items) w world.Doing.Begun) (found.Step k)) (sym works),
         (asked, is_there (tx_turn_in vhosts vhost) t works),
       )
 
@@ -131,7 +131,7 @@ module _ (a : Asking) (vhosts : List (Option Side)) (vhost file : ℕ) (t : TxTu
       let r = goes_so o (ap (λ (q : Option TurnEnd). onward_by a.seen vhost file more k q) (sym is) ∙ on)
       (subst (λ (q : Option TurnEnd). Works vhosts vhost t q) is works) in (
         ap (λ (q : Option TurnText). written_out a.seen so_far (tx_onward a.seen file t more.items (found.Step k) q))
-        (sym (some_same None words told)) ∙ r.0,
+            (sym (some_same None words told)) ∙ r.0,
         r.1,
       )
   onward_so (Some e) over words o is told on works = go (end_told e) refl told
@@ -143,7 +143,7 @@ module _ (a : Asking) (vhosts : List (Option Side)) (vhost file : ℕ) (t : TxTu
       go (Some x) eq h =
           let r = ends_so e o x eq (ap (λ (q : Option TurnEnd). onward_by a.seen vhost file more k q) (sym is) ∙ on) in (
             ap (λ (q : Option TurnText). written_out a.seen so_far
-            (tx_onward a.seen file t more.items (found.Step k) q)) (sym (some_same (Some x) words h)) ∙ r.0,
+                (tx_onward a.seen file t more.items (found.Step k) q)) (sym (some_same (Some x) words h)) ∙ r.0,
             r.1,
           )
 

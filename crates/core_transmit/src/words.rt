@@ -51,11 +51,8 @@ pub(crate) fn kind_of(vhost: u16, act: Act) -> Option<Kind>
             call,
         }),
         Act::Notices { on, wrote: _ } => Some(Kind::Notices { vhost, ring, on }),
-        Act::Hand
-        | Act::PutBack
-        | Act::NotReady
-        | Act::Out { name: _ }
-        | Act::Given { name: _ } => None,
+        Act::Hand | Act::PutBack | Act::NotReady | Act::Out { name: _ } | Act::Given { name: _ } =>
+            None,
     }
 }
 

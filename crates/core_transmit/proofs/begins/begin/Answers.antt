@@ -64,5 +64,5 @@ returns c =
       chains = c.new.result;
       none = c.new.ensures.items;
       onward = ap (λ (n : ℕ). on.Goes n (doing.Transmits c.args.vhost c.unwrap-file.result c.new.result)
-      (found.Step c.unwrap-kind.result)) c.seen.ensures;
+          (found.Step c.unwrap-kind.result)) c.seen.ensures;
     }

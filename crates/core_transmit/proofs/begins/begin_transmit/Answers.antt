@@ -45,9 +45,9 @@ returns-in-Some c =
           c.find_off.ensures.tells c.find_off.ensures.ends (λ g. (
             c.requires.may.0,
             off_did m c.args.vhost c.requires.command c.in-Some.end c.in-Some.kind g
-            (ap (λ (q : Side). is_off c.args.vhost 1 q.vhost)
-            (some_same g.side c.side.result.now (sym g.is_side ∙ c.side.ensures))
-            ∙ sym c.off.ensures.off ∙ c.in-Some.is),
+                (ap (λ (q : Side). is_off c.args.vhost 1 q.vhost)
+                (some_same g.side c.side.result.now (sym g.is_side ∙ c.side.ensures))
+                ∙ sym c.off.ensures.off ∙ c.in-Some.is),
           ));
     }
 
@@ -62,8 +62,8 @@ returns-in-None c =
           c.begin.ensures (λ o b. (
             c.requires.may.0,
             began_did m c.args.vhost c.requires.command o b
-            (ap (λ (q : Side). is_off c.args.vhost 1 q.vhost)
-            (some_same b.begins.before c.side.result.now (sym b.begins.is_before ∙ c.side.ensures))
-            ∙ sym c.off.ensures.off ∙ c.in-None.is),
+                (ap (λ (q : Side). is_off c.args.vhost 1 q.vhost)
+                (some_same b.begins.before c.side.result.now (sym b.begins.is_before ∙ c.side.ensures))
+                ∙ sym c.off.ensures.off ∙ c.in-None.is),
           ));
     }
