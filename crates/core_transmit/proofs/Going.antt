@@ -49,33 +49,30 @@ use Rattle.core_transmit.proofs.Made.{IsTold, is_told, over_by, step_did, words_
 use Rattle.core_transmit.proofs.Rows.{next_is, row_is}
 use Rattle.core_transmit.specs.Stepping.{Chains, Goes, IsThere, OnVhost, WentOn, held_in}
 
--- the row of a step that gives nothing
+-- the row of a step that gives nothing is that of a turn
+abbrev IsTurns : Setup → World → ℕ → ℕ → Actor → ℕ → EventKind → Type 0
+IsTurns s w actor n a vhost kind =
+    row s w kind actor a n (command.TxTurn vhost) ≡ turns w actor n a.seen a.doing (command.TxTurn vhost)
+
 by_stage : (st : TxStage) (kind : EventKind) (s : Setup) (w : World) (actor n : ℕ) (a : Actor) (vhost file : ℕ) (t : TxTurn)
     (chains : List ChainText) → is_giving st ≡ false → tx_next_kind st ≡ Some kind
     → a.doing ≡ world.Doing.Transmits file t chains
-    → row s w kind actor a n (command.TxTurn vhost) ≡ turns w actor n a.seen a.doing (command.TxTurn vhost)
+    → IsTurns s w actor n a vhost kind
 by_stage tx.Begin kind s w actor n a vhost file t chains not e d =
-    subst (λ (k : EventKind). row s w k actor a n (command.TxTurn vhost) ≡ turns w actor n a.seen a.doing (command.TxTurn vhost))
-    (some_same event.Notices kind e) refl
+    subst (IsTurns s w actor n a vhost) (some_same event.Notices kind e) refl
 by_stage tx.Fetch kind s w actor n a vhost file t chains not e d =
-    subst (λ (k : EventKind). row s w k actor a n (command.TxTurn vhost) ≡ turns w actor n a.seen a.doing (command.TxTurn vhost))
-    (some_same event.Fetch kind e) refl
+    subst (IsTurns s w actor n a vhost) (some_same event.Fetch kind e) refl
 by_stage tx.NoticesOn kind s w actor n a vhost file t chains not e d =
-    subst (λ (k : EventKind). row s w k actor a n (command.TxTurn vhost) ≡ turns w actor n a.seen a.doing (command.TxTurn vhost))
-    (some_same event.Notices kind e) refl
+    subst (IsTurns s w actor n a vhost) (some_same event.Notices kind e) refl
 by_stage tx.FetchAgain kind s w actor n a vhost file t chains not e d =
-    subst (λ (k : EventKind). row s w k actor a n (command.TxTurn vhost) ≡ turns w actor n a.seen a.doing (command.TxTurn vhost))
-    (some_same event.Fetch kind e) refl
+    subst (IsTurns s w actor n a vhost) (some_same event.Fetch kind e) refl
 by_stage (tx.NoticesOff fault) kind s w actor n a vhost file t chains not e d =
-    subst (λ (k : EventKind). row s w k actor a n (command.TxTurn vhost) ≡ turns w actor n a.seen a.doing (command.TxTurn vhost))
-    (some_same event.Notices kind e) refl
+    subst (IsTurns s w actor n a vhost) (some_same event.Notices kind e) refl
 by_stage tx.Copy kind s w actor n a vhost file t chains not e d =
-    subst (λ (k : EventKind). row s w k actor a n (command.TxTurn vhost) ≡ turns w actor n a.seen a.doing (command.TxTurn vhost))
-    (some_same event.Copy kind e) refl
+    subst (IsTurns s w actor n a vhost) (some_same event.Copy kind e) refl
 by_stage tx.Give kind s w actor n a vhost file t chains not e d = absurd (true≢false not)
 by_stage (tx.Publish end) kind s w actor n a vhost file t chains not e d =
-    subst (λ (k : EventKind). row s w k actor a n (command.TxTurn vhost) ≡ turns w actor n a.seen a.doing (command.TxTurn vhost))
-    (some_same event.PublishUsed kind e) refl
+    subst (IsTurns s w actor n a vhost) (some_same event.PublishUsed kind e) refl
 by_stage (tx.Ended end) kind s w actor n a vhost file t chains not e d = absurd (cc (e))
 
 module _ {a : Asking} {vhost file : ℕ} {chains : Chains} {kind : EventKind} {x : Shared}
