@@ -1,0 +1,116 @@
+-- The next event of a command that changes one file.
+use Rattle.std.proofs.Common.{◌≡◌, ℕ, List, [], ◌∷◌, ◌++◌, Bool, true, false, Option, Some, None, refl, sym, ap, ◌∙◌, subst}
+use Rattle.std.proofs.lemmas.List.{append-nil}
+use Rattle.std.specs.Prelude.{is_some, map, slice_get, IsSome}
+use Rattle.tap_frame.specs.Frame.{FrameValue}
+use Rattle.tap_ground.specs.Options.{◌>>=◌}
+use Rattle.tap_lines.specs.Files.{files_of}
+use Rattle.tap_lines.specs.Placed.{MayChange, Placed}
+use Rattle.tap_sound.proofs.Kit.{some_same, then_some}
+use Rattle.tap_sound.proofs.Taken.{each_with_at}
+use Rattle.tap_trace.specs.declared.answer.Answer.{Answer}
+use Rattle.tap_world.specs.ByNumber.{at, with_at}
+use Rattle.tap_world.specs.declared.event.EventKind.{EventKind}
+use Rattle.tap_world.specs.Effect as world
+use Rattle.tap_world.specs.Effect.{Effect, files_after}
+use Rattle.tap_world.specs.Effect.OnFiles.{OnFile}
+use Rattle.tap_world.specs.Effect.OnGuests.{NoGuest}
+use Rattle.tap_world.specs.Effect.OnVhosts.{NoVhost}
+use Rattle.tap_world.specs.Line.{File}
+use Rattle.tap_world.specs.LineSteps.{Change, changed}
+use Rattle.tap_world.specs.Scripts.{on}
+use Rattle.tap_world.specs.World as come
+use Rattle.tap_world.specs.World.{Actor}
+use Rattle.tap_world.specs.declared.told.Said.{Said}
+use Rattle.core_shared.specs.Asking.{Asking, setup}
+use Rattle.core_shared.specs.Coming.{come_of, onward_of, written_out}
+use Rattle.core_shared.specs.Did.{Did, HasEffect}
+use Rattle.core_shared.specs.Held.{IsHeld}
+use Rattle.core_shared.specs.MayDo.{HasEvent, MayDo}
+use Rattle.core_shared.specs.Suiting.{SuitsOn}
+use Rattle.core_shared.specs.Worlds.{world_in}
+use Rattle.core_shared.specs.declared.doing.Doing.{Doing}
+use Rattle.core_shared.specs.declared.onward.Onward.{Onward}
+use Rattle.core_shared.specs.declared.shared.Shared.{Shared}
+use Rattle.core_rings.proofs.Frames.{AllSent, files_at, files_with, side_at}
+
+-- ---- which event is next
+
+-- the next event is of this kind
+pub at_kind : {a : Asking} {d : Doing} {k : EventKind} {x : Shared} (j : EventKind) → Some j ≡ Some k → MayDo a d k x → MayDo a d j x
+at_kind {a} {d} {k} {x} j e m = subst (λ (i : EventKind). MayDo a d i x) (sym (some_same j k e)) m
+
+-- where it is read off a file, the file is there
+pub on_there : (w : come.World) (file : ℕ) (next : File → EventKind) (k : EventKind) → on w file next ≡ Some k
+    → (f : File) × (at w.files file ≡ Some f) × (next f ≡ k)
+on_there w file next k e = go (at w.files file) refl
+  where
+    go : (o : Option File) → at w.files file ≡ o → (f : File) × (at w.files file ≡ Some f) × (next f ≡ k)
+    go None is = absurd (cc (e, is))
+    go (Some f) is = (f, is, some_same (next f) k (cc (e, is)))
+
+-- ---- its effect
+
+-- one file changes, and the command goes on so
+abbrev pub changes_file : ℕ → Change → world.Onward → Shared → Effect
+changes_file file change o x = record {
+  ops = [];
+  files = OnFile file change;
+  guests = NoGuest;
+  vhosts = NoVhost;
+  hosts = [];
+  drops = [];
+  writer = x.writer;
+  onward = o;
+}
+
+-- An event that changes this file: the row finds this in it, and the command goes on so by it.
+pub record ChangesSo {T : Type 0} (a : Asking) (so_far : come.Doing) (k : EventKind) (x : Shared) (file : ℕ) (change : Change)
+    (find : File → Option T) (goes : File → T → world.Onward) (p : Placed) : Type 0 where
+  pub may : MayChange change p.file
+  pub found : T
+  pub is_found : find p.file ≡ Some found
+  pub has : HasEffect a so_far k x (changes_file file change (goes p.file found) x)
+
+-- and the file is there
+abbrev pub FileEvent : {T : Type 0} → Asking → come.Doing → EventKind → Shared → ℕ → Change → (File → Option T)
+    → (File → T → world.Onward) → Type 0
+FileEvent {T} a so_far k x file change find goes =
+    (p : Placed) × (at x.files file ≡ Some p) × ChangesSo a so_far k x file change find goes p
+
+pub file_event : {T : Type 0} (a : Asking) (so_far : come.Doing) (k : EventKind) (x : Shared) (file : ℕ) (change : Change)
+    (find : File → Option T) (goes : File → T → world.Onward) (r : Effect) (files : List (Option File))
+    → HasEffect a so_far k x r
+    → (at (files_of x.files) file >>= λ (f : File). find f >>= λ (t : T). Some (changes_file file change (goes f t) x)) ≡ Some r
+    → files_after r.files (files_of x.files) ≡ Some files
+    → FileEvent a so_far k x file change find goes
+file_event {T} a so_far k x file change find goes r files has row after =
+    let f = then_some (at (files_of x.files) file) (λ (f : File). find f >>= λ (t : T). Some (changes_file file change (goes f t) x)) r row in
+    let t = then_some (find f.0) (λ (t : T). Some (changes_file file change (goes f.0 t) x)) r f.2 in
+    let is : changes_file file change (goes f.0 t.0) x ≡ r = some_same _ _ t.2 in
+    let p = side_at x.files file f.0 f.1 in
+    let after_it : files_after (OnFile file change) (files_of x.files) ≡ Some files =
+        subst (λ (e : Effect). files_after e.files (files_of x.files) ≡ Some files) (sym is) after in
+    let here = then_some (at (files_of x.files) file) (λ (g : File). changed change g >>= λ (h : File). Some (with_at file h (files_of x.files))) files after_it in
+    let new = then_some (changed change here.0) (λ (h : File). Some (with_at file h (files_of x.files))) files here.2 in
+    let same : here.0 ≡ p.0.file = some_same here.0 p.0.file (sym here.1 ∙ f.1 ∙ ap Some (sym p.2)) in
+    let has_it : HasEffect a so_far k x (changes_file file change (goes f.0 t.0) x) =
+        subst (λ (e : Effect). HasEffect a so_far k x e) (sym is) has in
+    let may_it : MayChange change here.0 = ap (λ (o : Option File). is_some o) {y = Some new.0} new.1 in
+    (p.0, p.1, record {
+      may = subst (λ (g : File). MayChange change g) same may_it;
+      found = t.0;
+      is_found = subst (λ (g : File). find g ≡ Some t.0) (sym p.2) t.1;
+      has = subst (λ (g : File). HasEffect a so_far k x (changes_file file change (goes g t.0) x)) (sym p.2) has_it;
+    })
+
+-- the file that is there
+pub there : {T : Type 0} (a : Asking) (so_far : come.Doing) (k : EventKind) (x : Shared) (file : ℕ) (change : Change)
+    (find : File → Option T) (goes : File → T → world.Onward) → FileEvent a so_far k x file change find goes → IsSome (at x.files file)
+there a so_far k x file change find goes e = ap (λ (o : Option Placed). is_some o) e.1
+
+pub here : {T : Type 0} (a : Asking) (so_far : come.Doing) (k : EventKind) (x : Shared) (file : ℕ) (change : Change)
+    (find : File → Option T) (goes : File → T → world.Onward) (p : Placed) → FileEvent a so_far k x file change find goes
+    → at x.files file ≡ Some p → ChangesSo a so_far k x file change find goes p
+here a so_far k x file change find goes p e is =
+    subst (λ (q : Placed). ChangesSo a so_far k x file change find goes q) (some_same e.0 p (sym e.1 ∙ is)) e.2
