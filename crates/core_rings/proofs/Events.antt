@@ -8,17 +8,19 @@ use Rattle.tap_lines.specs.Files.{files_of}
 use Rattle.tap_lines.specs.Placed.{MayChange, Placed}
 use Rattle.tap_sound.proofs.Kit.{some_same, then_some}
 use Rattle.tap_sound.proofs.Taken.{each_with_at}
-use Rattle.tap_trace.specs.declared.answer.Answer.{Answer}
+use Rattle.tap_trace.specs.declared.answer.Answer.TheVariants as answer
+use Rattle.tap_frame.specs.declared.name.Name.{Name}
+use Rattle.tap_ledger.specs.declared.fate.Cause.{Cause}
+use Rattle.tap_world.specs.World.{name_of}
 use Rattle.tap_world.specs.ByNumber.{at, with_at}
 use Rattle.tap_world.specs.declared.event.EventKind.{EventKind}
 use Rattle.tap_world.specs.Effect as world
 use Rattle.tap_world.specs.Effect.{Effect, files_after}
-use Rattle.tap_world.specs.Effect.OnFiles.{OnFile}
+use Rattle.tap_world.specs.Effect.OnFiles.{NoFile, OnFile}
 use Rattle.tap_world.specs.Effect.OnGuests.{NoGuest}
 use Rattle.tap_world.specs.Effect.OnVhosts.{NoVhost}
 use Rattle.tap_world.specs.Line.{File}
 use Rattle.tap_world.specs.LineSteps.{Change, changed}
-use Rattle.tap_world.specs.Scripts.{on}
 use Rattle.tap_world.specs.World as come
 use Rattle.tap_world.specs.World.{Actor}
 use Rattle.tap_world.specs.declared.told.Said.{Said}
@@ -32,22 +34,7 @@ use Rattle.core_shared.specs.Worlds.{world_in}
 use Rattle.core_shared.specs.declared.doing.Doing.{Doing}
 use Rattle.core_shared.specs.declared.onward.Onward.{Onward}
 use Rattle.core_shared.specs.declared.shared.Shared.{Shared}
-use Rattle.core_rings.proofs.Frames.{AllSent, files_at, files_with, side_at}
-
--- ---- which event is next
-
--- the next event is of this kind
-pub at_kind : {a : Asking} {d : Doing} {k : EventKind} {x : Shared} (j : EventKind) → Some j ≡ Some k → MayDo a d k x → MayDo a d j x
-at_kind {a} {d} {k} {x} j e m = subst (λ (i : EventKind). MayDo a d i x) (sym (some_same j k e)) m
-
--- where it is read off a file, the file is there
-pub on_there : (w : come.World) (file : ℕ) (next : File → EventKind) (k : EventKind) → on w file next ≡ Some k
-    → (f : File) × (at w.files file ≡ Some f) × (next f ≡ k)
-on_there w file next k e = go (at w.files file) refl
-  where
-    go : (o : Option File) → at w.files file ≡ o → (f : File) × (at w.files file ≡ Some f) × (next f ≡ k)
-    go None is = absurd (cc (e, is))
-    go (Some f) is = (f, is, some_same (next f) k (cc (e, is)))
+use Rattle.core_shared.proofs.Kit.{file_at, placed_at}
 
 -- ---- its effect
 
@@ -88,7 +75,7 @@ file_event {T} a so_far k x file change find goes r files has row after =
     let f = then_some (at (files_of x.files) file) (λ (f : File). find f >>= λ (t : T). Some (changes_file file change (goes f t) x)) r row in
     let t = then_some (find f.0) (λ (t : T). Some (changes_file file change (goes f.0 t) x)) r f.2 in
     let is : changes_file file change (goes f.0 t.0) x ≡ r = some_same _ _ t.2 in
-    let p = side_at x.files file f.0 f.1 in
+    let p = placed_at file x.files f.0 f.1 in
     let after_it : files_after (OnFile file change) (files_of x.files) ≡ Some files =
         subst (λ (e : Effect). files_after e.files (files_of x.files) ≡ Some files) (sym is) after in
     let here = then_some (at (files_of x.files) file) (λ (g : File). changed change g >>= λ (h : File). Some (with_at file h (files_of x.files))) files after_it in
@@ -114,3 +101,34 @@ pub here : {T : Type 0} (a : Asking) (so_far : come.Doing) (k : EventKind) (x : 
     → at x.files file ≡ Some p → ChangesSo a so_far k x file change find goes p
 here a so_far k x file change find goes p e is =
     subst (λ (q : Placed). ChangesSo a so_far k x file change find goes q) (some_same e.0 p (sym e.1 ∙ is)) e.2
+
+-- ---- a frame that is dropped
+
+-- its name is dropped, and the command goes on so
+abbrev pub drops_one : Name → world.Onward → Shared → Effect
+drops_one n o x = record {
+  ops = [];
+  files = NoFile;
+  guests = NoGuest;
+  vhosts = NoVhost;
+  hosts = [];
+  drops = n ∷ [];
+  writer = x.writer;
+  onward = o;
+}
+
+-- the effect of a drop under this cause
+abbrev pub drops_under : Asking → ℕ → Shared → Cause → Effect
+drops_under a file x c = drops_one (name_of a.actor a.number) (world.Onward.Ends a.seen (answer.Dropped (Some file) c)) x
+
+pub drop_event : (a : Asking) (so_far : come.Doing) (k : EventKind) (x : Shared) (file : ℕ) (why : File → Option Cause) (r : Effect) (p : Placed)
+    → HasEffect a so_far k x r
+    → (at (files_of x.files) file >>= λ (f : File). why f >>= λ (c : Cause). Some (drops_under a file x c)) ≡ Some r
+    → at x.files file ≡ Some p
+    → (c : Cause) × (why p.file ≡ Some c) × HasEffect a so_far k x (drops_under a file x c)
+drop_event a so_far k x file why r p has row is =
+    let f = then_some (at (files_of x.files) file) (λ (f : File). why f >>= λ (c : Cause). Some (drops_under a file x c)) r row in
+    let c = then_some (why f.0) (λ (c : Cause). Some (drops_under a file x c)) r f.2 in
+    let same : f.0 ≡ p.file = some_same f.0 p.file (sym f.1 ∙ file_at file x.files p is) in
+    let eff : drops_under a file x c.0 ≡ r = some_same _ _ c.2 in
+    (c.0, ap why (sym same) ∙ c.1, subst (λ (e : Effect). HasEffect a so_far k x e) (sym eff) has)

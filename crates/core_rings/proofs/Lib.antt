@@ -1,4 +1,4 @@
-mod Frames
 mod Events
 mod Done
 mod Rows
+mod Reading
