@@ -2,3 +2,4 @@ mod Events
 mod Done
 mod Rows
 mod Reading
+mod Telling

@@ -74,24 +74,24 @@ pub fn read(
 {
     let side = shared.files.side(file);
     if side.owner().is_some() {
-        Ok(meet_worker(shared, asked, file, room, shape))
+        Ok(answer(asked, Answer::Busy))
     } else if side.has_batch() {
         read_front(shared, alloc, asked, file, room, shape)
     } else if side.ready_front().is_some() {
         Ok(move_to_read(shared, asked, file, room, shape))
     } else {
-        Ok(find_none(shared, asked, file, room, shape))
+        let place = side.front_place();
+        Ok(answer(asked, Answer::Again { place }))
     }
 }
 
-// Owner: a worker owns the file.
-fn meet_worker(shared: &mut Shared, asked: &Asked<'_>, file: u16, room: u32, shape: Shape) -> Onward
-    requires may { MayDo asked.now (doing.Reads file room shape) kind.Owner shared.old }
-    ensures did { Did asked.now (doing.Reads file room shape) kind.Owner shared.old shared.new result }
+// The command ends with an answer.
+fn answer(asked: &Asked<'_>, answer: Answer) -> Onward
+    ensures { result ≡ Onward.Ends asked.now.seen answer }
 {
     Onward::Ends {
         seen: asked.seen(),
-        answer: Answer::Busy,
+        answer,
     }
 }
 
@@ -112,10 +112,7 @@ fn read_front(
     let frame = side.leave(Fate::Read);
     let name = frame.name();
     let bytes = spell(alloc, shape, frame, room)?;
-    Ok(Onward::Ends {
-        seen: asked.seen(),
-        answer: Answer::Read { name, place, bytes },
-    })
+    Ok(answer(asked, Answer::Read { name, place, bytes }))
 }
 
 // Move: the ring's front goes to the batch.
@@ -128,19 +125,6 @@ fn move_to_read(shared: &mut Shared, asked: &Asked<'_>, file: u16, room: u32, sh
         seen: asked.seen(),
         doing: Doing::Reads { file, room, shape },
         found: Found::Moved(name),
-    }
-}
-
-// NotReady: the batch is empty, and the ring's front isn't ready.
-fn find_none(shared: &mut Shared, asked: &Asked<'_>, file: u16, room: u32, shape: Shape) -> Onward
-    requires may { MayDo asked.now (doing.Reads file room shape) kind.NotReady shared.old }
-    ensures did { Did asked.now (doing.Reads file room shape) kind.NotReady shared.old shared.new result }
-{
-    Onward::Ends {
-        seen: asked.seen(),
-        answer: Answer::Again {
-            place: shared.files.side(file).front_place(),
-        },
     }
 }
 

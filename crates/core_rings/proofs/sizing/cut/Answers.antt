@@ -15,10 +15,13 @@ use Rattle.core_shared.specs.Worlds.{world_in}
 use Rattle.core_shared.specs.declared.shared.Shared.{Shared}
 use Rattle.core_rings.proofs.sizing.cut.Goals as goal
 
+abbrev numbered : ℕ → Command → Numbered
+numbered n c = record { number = n; command = c }
+
 -- it has cut no more frames than there are places
 cuts_few : (a : Asking) (x : Shared) (file capacity places n : ℕ) → MayDo a (doing.Shrinks file capacity places n) kind.Cut x → n ≤ 2 ^ 40 - 1
 cuts_few a x file capacity places n m =
-    let now = ap (λ (c : Command). Some {A = Numbered} (record { number = a.number; command = c })) m.suits in
+    let now = ap (λ (c : Command). Some (numbered a.number c)) m.suits in
     let s : IsShrinking (setup a) (world_in x m.actors m.said) a.actor file places n capacity =
         m.steady.sized a.actor (actor_at a (Shrinks file places n) m.rest) m.is_actor a.number file capacity file places n now refl in
     let room = (m.sound.lines file s.f s.is_there).ordered.places in
