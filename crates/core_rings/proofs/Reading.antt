@@ -171,7 +171,7 @@ none_event a x file room shape p m is =
 
 pub first_within : (test : Standing → Bool) (line : List Entry) (i : ℕ) → first_that test line ≡ Some i → i < length line
 first_within test [] i e = absurd (cc (e))
-first_within test (x ∷ xs) i e = go (test x.stands) e
+first_within test (x ∷ xs) i e = go (test x.stands) (first_that test xs) (λ j. first_within test xs j) e
   where
     next : (o : Option ℕ) → ((j : ℕ) → o ≡ Some j → j < length xs) → option_map (λ j. j + 1) o ≡ Some i → i < suc (length xs)
     next None h k = absurd (cc (k))
@@ -180,11 +180,9 @@ first_within test (x ∷ xs) i e = go (test x.stands) e
         let is : j + 1 ≡ i = some_same (j + 1) i k in
         omega (arith, below, is)
 
-    go : (b : Bool) → (if b then Some 0 else option_map (λ j. j + 1) (first_that test xs)) ≡ Some i → i < suc (length xs)
-    go true k =
+    go : (b : Bool) (o : Option ℕ) → ((j : ℕ) → o ≡ Some j → j < length xs) → (if b then Some 0 else option_map (λ j. j + 1) o) ≡ Some i
+        → i < suc (length xs)
+    go true o h k =
         let is : 0 ≡ i = some_same 0 i k in
         omega (arith, is)
-    go false k = next (first_that test xs) (λ j. first_within_rest j) k
-      where
-        first_within_rest : (j : ℕ) → first_that test xs ≡ Some j → j < length xs
-        first_within_rest j h = first_within test xs j h
+    go false o h k = next o h k
