@@ -1,13 +1,10 @@
 -- The next event of a command that changes one file.
-use Rattle.std.proofs.Common.{◌≡◌, ℕ, List, [], ◌∷◌, ◌++◌, Bool, true, false, Option, Some, None, refl, sym, ap, ◌∙◌, subst}
-use Rattle.std.proofs.lemmas.List.{append-nil}
-use Rattle.std.specs.Prelude.{is_some, map, slice_get, IsSome}
-use Rattle.tap_frame.specs.Frame.{FrameValue}
+use Rattle.std.proofs.Common.{◌≡◌, ℕ, List, [], ◌∷◌, Option, Some, sym, ap, ◌∙◌, subst}
+use Rattle.std.specs.Prelude.{is_some, IsSome}
 use Rattle.tap_ground.specs.Options.{◌>>=◌}
 use Rattle.tap_lines.specs.Files.{files_of}
 use Rattle.tap_lines.specs.Placed.{MayChange, Placed}
 use Rattle.tap_sound.proofs.Kit.{some_same, then_some}
-use Rattle.tap_sound.proofs.Taken.{each_with_at}
 use Rattle.tap_trace.specs.declared.answer.Answer.TheVariants as answer
 use Rattle.tap_frame.specs.declared.name.Name.{Name}
 use Rattle.tap_ledger.specs.declared.fate.Cause.{Cause}
@@ -23,16 +20,8 @@ use Rattle.tap_world.specs.Line.{File}
 use Rattle.tap_world.specs.LineSteps.{Change, changed}
 use Rattle.tap_world.specs.World as come
 use Rattle.tap_world.specs.World.{Actor}
-use Rattle.tap_world.specs.declared.told.Said.{Said}
-use Rattle.core_shared.specs.Asking.{Asking, setup}
-use Rattle.core_shared.specs.Coming.{come_of, onward_of, written_out}
-use Rattle.core_shared.specs.Did.{Did, HasEffect}
-use Rattle.core_shared.specs.Held.{IsHeld}
-use Rattle.core_shared.specs.MayDo.{HasEvent, MayDo}
-use Rattle.core_shared.specs.Suiting.{SuitsOn}
-use Rattle.core_shared.specs.Worlds.{world_in}
-use Rattle.core_shared.specs.declared.doing.Doing.{Doing}
-use Rattle.core_shared.specs.declared.onward.Onward.{Onward}
+use Rattle.core_shared.specs.Asking.{Asking}
+use Rattle.core_shared.specs.Did.{HasEffect}
 use Rattle.core_shared.specs.declared.shared.Shared.{Shared}
 use Rattle.core_shared.proofs.Kit.{file_at, placed_at}
 

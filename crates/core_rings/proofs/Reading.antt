@@ -1,6 +1,6 @@
 -- What a read takes.
-use Rattle.std.proofs.Common.{◌≡◌, ℕ, zero, suc, ◌+◌, ◌<◌, ◌≤◌, List, [], ◌∷◌, length, take, true, false, Bool, Option, Some, None, refl, sym, ap, ◌∙◌, subst, true≢false, arith}
-use Rattle.std.specs.Prelude.{if◌then◌else◌, ◌==◌, ◌&&◌, min, is_none, is_some, option_map, slice_get}
+use Rattle.std.proofs.Common.{◌≡◌, ℕ, suc, ◌+◌, ◌<◌, ◌≤◌, List, [], ◌∷◌, length, take, true, false, Bool, Option, Some, None, refl, sym, ap, ◌∙◌, subst, true≢false, arith}
+use Rattle.std.specs.Prelude.{if◌then◌else◌, ◌&&◌, min, is_none, is_some, option_map, slice_get}
 use Rattle.scen_words.specs.declared.command.Command.{Command}
 use Rattle.scen_words.specs.declared.command.Command.TheVariants as command
 use Rattle.tap_frame.specs.declared.shape.Shape.{Shape}
@@ -19,10 +19,11 @@ use Rattle.tap_world.specs.declared.event.EventKind.TheVariants as kind
 use Rattle.tap_world.specs.declared.line.Entry.{Entry}
 use Rattle.tap_world.specs.declared.line.Standing.{Standing}
 use Rattle.tap_world.specs.Effect.{Effect}
+use Rattle.tap_world.specs.Effect.OnFiles.{OnFile}
 use Rattle.tap_world.specs.Effect.Onward.{Ends}
 use Rattle.tap_world.specs.Frames.{FrameText, Front, least_in, text_in}
 use Rattle.tap_world.specs.Line.{File, first_that, front_place, in_batch}
-use Rattle.tap_world.specs.LineSteps.{ready_front}
+use Rattle.tap_world.specs.LineSteps.{Change, ready_front}
 use Rattle.tap_world.specs.LineSteps.Change.{Leaves}
 use Rattle.tap_world.specs.Setup.{Setup, frame_of, frame_sent}
 use Rattle.tap_world.specs.SoundActors.{reads_from}
@@ -59,6 +60,9 @@ pub record ReadsSo (a : Asking) (x : Shared) (file room : ℕ) (shape : Shape) (
   pub has : HasEffect a (Reads file room (front_of shape)) kind.Out x
       (changes_file file (Leaves None fate.Read) (read_told p.file (front_of shape) room a.seen index entry frame) x)
 
+effect_files : (file : ℕ) (change : Change) (r e : Effect) → r ≡ e → r.files ≡ OnFile file change → OnFile file change ≡ e.files
+effect_files file change r e is h = sym h ∙ ap (λ (q : Effect). q.files) is
+
 pub read_event : (a : Asking) (x : Shared) (file room : ℕ) (shape : Shape) (p : Placed) → MayDo a (doing.Reads file room shape) kind.Out x
     → at x.files file ≡ Some p → ReadsSo a x file room shape p
 read_event a x file room shape p m is =
@@ -77,6 +81,7 @@ read_event a x file room shape p m is =
     let e = then_some (slice_get p.file.line i.0) (λ (e : Entry). frame_of s e.name e.len >>= λ (t : FrameText). Some (eff p.file i.0 e t)) m.event.effect i.2 in
     let t = then_some (frame_of s e.0.name e.0.len) (λ (t : FrameText). Some (eff p.file i.0 e.0 t)) m.event.effect e.2 in
     let its : eff p.file i.0 e.0 t.0 ≡ m.event.effect = some_same _ _ t.2 in
+    let files_is : m.event.effect.files ≡ OnFile file (Leaves None fate.Read) = sym (effect_files file (Leaves None fate.Read) (eff p.file i.0 e.0 t.0) m.event.effect its refl) in
     let all : HasEffect a (Reads file room front) kind.Out x m.event.effect = record {
           is_next = λ actors said. m.event.is_next;
           is_row = λ actors said rest.
@@ -89,7 +94,7 @@ read_event a x file room shape p m is =
       is_entry = e.1;
       frame = t.0;
       is_frame = t.1;
-      may = may_change m file (Leaves None fate.Read) p is (ap (λ (r : Effect). r.files) (sym its));
+      may = may_change m file (Leaves None fate.Read) p is files_is;
       has = subst (λ (r : Effect). HasEffect a (Reads file room front) kind.Out x r) (sym its) all;
     }
 

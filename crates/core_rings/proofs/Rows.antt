@@ -1,40 +1,30 @@
 -- The rows of events that change one file, as what they find in the file and how the command goes on.
-use Rattle.std.proofs.Common.{◌≡◌, ℕ, ◌+◌, Bool, true, false, Option, Some, None, refl, sym, ap, ◌∙◌, subst, true≢false}
-use Rattle.std.specs.Prelude.{slice_get}
+use Rattle.std.proofs.Common.{◌≡◌, ℕ, ◌+◌, Option, Some, None, refl, sym, ap, ◌∙◌}
 use Rattle.scen_words.specs.declared.command.Command.{Command}
-use Rattle.scen_words.specs.declared.command.Command.TheVariants as command
-use Rattle.tap_frame.specs.declared.name.Name.{Name}
 use Rattle.tap_frame.specs.declared.shape.Shape.{Shape}
 use Rattle.tap_frame.specs.Frame.{FrameValue}
 use Rattle.tap_ground.specs.Options.{◌>>=◌}
 use Rattle.tap_guests.specs.Backs.{front_of}
 use Rattle.tap_ledger.specs.declared.fate.Cause.TheVariants as cause
 use Rattle.tap_ledger.specs.declared.fate.Fate.TheVariants as fate
-use Rattle.tap_sound.proofs.Kit.{some_same, then_some}
 use Rattle.tap_sound.proofs.Taken.{if_some}
 use Rattle.tap_steer.specs.declared.operation.Op.{Op}
-use Rattle.tap_trace.specs.declared.answer.Answer.TheVariants as answer
 use Rattle.tap_world.specs.declared.event.EventKind.TheVariants as kind
 use Rattle.tap_world.specs.declared.event.Found.TheVariants as found
-use Rattle.tap_world.specs.Effect as world
 use Rattle.tap_world.specs.Effect.{Effect}
-use Rattle.tap_world.specs.Effect.Onward.{Ends, Goes, Stays}
-use Rattle.tap_world.specs.Frames.{FrameText, Front}
+use Rattle.tap_world.specs.Effect.Onward.{Goes, Stays}
 use Rattle.tap_world.specs.ByNumber.{at}
 use Rattle.tap_world.specs.Guests.{Guest, Vhost}
 use Rattle.tap_world.specs.StepTurns.{turn_on}
-use Rattle.tap_world.specs.declared.line.Entry.{Entry}
 use Rattle.tap_world.specs.Line.{File, claimed, first_that, in_batch, in_ring, last_that}
 use Rattle.tap_world.specs.LineSteps.{ready_front}
-use Rattle.tap_world.specs.LineSteps.Change.{Claims, Cuts, Leaves, Moves, Puts, Reopens, Shuts, Sizes}
-use Rattle.tap_world.specs.Setup.{Setup, frame_of}
+use Rattle.tap_world.specs.LineSteps.Change.{Claims, Cuts, Leaves, Moves, Reopens, Shuts, Sizes}
 use Rattle.tap_world.specs.Step.{or_else}
-use Rattle.tap_world.specs.StepRing.{cuts, leaves, name_at, read_told, reopens, resizes, shuts}
-use Rattle.tap_world.specs.StepTransmits.{goes_on, on_turn, turns}
+use Rattle.tap_world.specs.StepRing.{cuts, leaves, name_at, reopens, resizes, shuts}
+use Rattle.tap_world.specs.StepTransmits.{on_turn, turns}
 use Rattle.tap_world.specs.World.{World, holds_writer, name_of}
 use Rattle.tap_world.specs.World.Doing.{Opened, Opens, Placed, Purges, Reads, Resizes, Routed, Shrinks, Withdrawn}
 use Rattle.core_shared.specs.Asking.{Asking, setup}
-use Rattle.core_shared.specs.Did.{HasEffect}
 use Rattle.core_shared.specs.MayDo.{MayDo}
 use Rattle.core_shared.specs.Worlds.{world_in}
 use Rattle.core_shared.specs.declared.doing.Doing.TheVariants as doing

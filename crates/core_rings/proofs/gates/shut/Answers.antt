@@ -1,6 +1,5 @@
 use Rattle.std.proofs.Common.{refl}
 use Rattle.tap_world.specs.declared.event.EventKind.TheVariants as kind
-use Rattle.core_shared.specs.MayDo.{MayDo, MayGo}
 use Rattle.core_shared.specs.declared.doing.Doing.TheVariants as doing
 use Rattle.core_shared.proofs.Knowing.{may_do}
 use Rattle.core_rings.proofs.Done.{file_done, frames_stay}

@@ -1,4 +1,4 @@
-use Rattle.std.proofs.Common.{◌∙◌, refl, sym, subst, List, Option}
+use Rattle.std.proofs.Common.{refl, sym, subst, List, Option}
 use Rattle.tap_world.specs.declared.event.EventKind.TheVariants as kind
 use Rattle.core_shared.specs.declared.doing.Doing.TheVariants as doing
 use Rattle.tap_frame.specs.Frame.{FrameValue}

@@ -1,4 +1,4 @@
-use Rattle.std.proofs.Common.{◌≡◌, ◌∙◌, refl, sym}
+use Rattle.std.proofs.Common.{refl}
 use Rattle.tap_world.specs.declared.event.EventKind.TheVariants as kind
 use Rattle.core_shared.specs.declared.doing.Doing.TheVariants as doing
 use Rattle.tap_sound.proofs.Kit.{only_some}

@@ -1,4 +1,4 @@
-use Rattle.std.proofs.Common.{◌≡◌, ℕ, ◌+◌, ◌-◌, ◌∙◌, refl, sym, ap, subst, List, Option, Some, arith}
+use Rattle.std.proofs.Common.{◌≡◌, ℕ, ◌-◌, ◌∙◌, refl, sym, ap, subst, List, Option, Some, arith}
 use Rattle.tap_world.specs.declared.event.EventKind.TheVariants as kind
 use Rattle.core_shared.specs.declared.doing.Doing.TheVariants as doing
 use Rattle.std.specs.Prelude.{IfSome, slice_get}
@@ -20,7 +20,6 @@ use Rattle.core_shared.specs.Asking.{Asking, setup}
 use Rattle.core_shared.specs.MayDo.{MayDo}
 use Rattle.core_shared.specs.declared.shared.Shared.{Shared}
 use Rattle.core_rings.proofs.Done.{file_done}
-use Rattle.core_rings.proofs.Events.{changes_file}
 use Rattle.core_rings.proofs.sending.put.Goals as goal
 
 -- the frame is that of the entry at its place

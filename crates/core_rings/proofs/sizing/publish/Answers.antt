@@ -1,4 +1,4 @@
-use Rattle.std.proofs.Common.{refl, Some, ap, ◌∙◌}
+use Rattle.std.proofs.Common.{refl, ap}
 use Rattle.scen_words.specs.declared.command.Command.{Command}
 use Rattle.tap_steer.specs.declared.operation.Op.TheVariants as op
 use Rattle.tap_world.specs.Setup.{op_of}

@@ -1,4 +1,4 @@
-use Rattle.std.proofs.Common.{sym, ap, ◌∙◌, refl}
+use Rattle.std.proofs.Common.{sym, ◌∙◌, refl}
 use Rattle.tap_world.specs.declared.event.EventKind.TheVariants as kind
 use Rattle.core_shared.specs.declared.doing.Doing.TheVariants as doing
 use Rattle.tap_sound.proofs.Kit.{some_same}

@@ -1,6 +1,5 @@
-use Rattle.std.proofs.Common.{◌≡◌, ◌∙◌, refl, sym, ap, Some, Bool, true, false}
+use Rattle.std.proofs.Common.{◌∙◌, refl, sym, ap, Some, Bool}
 use Rattle.tap_world.specs.declared.event.EventKind.TheVariants as kind
-use Rattle.core_shared.specs.declared.doing.Doing.TheVariants as doing
 use Rattle.std.specs.Prelude.{if◌then◌else◌}
 use Rattle.tap_world.specs.declared.event.EventKind.{EventKind}
 use Rattle.tap_world.specs.Scripts.{purge_next}

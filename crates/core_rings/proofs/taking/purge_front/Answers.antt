@@ -1,4 +1,4 @@
-use Rattle.std.proofs.Common.{sym, ap, ◌∙◌, refl}
+use Rattle.std.proofs.Common.{◌∙◌, refl}
 use Rattle.tap_world.specs.declared.event.EventKind.TheVariants as kind
 use Rattle.tap_world.specs.Line.{first_that, in_batch}
 use Rattle.core_shared.specs.declared.doing.Doing.TheVariants as doing

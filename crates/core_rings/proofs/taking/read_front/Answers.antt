@@ -2,7 +2,6 @@ use Rattle.std.proofs.Common.{◌≡◌, ◌∙◌, refl, sym, ap, ◌+◌, subs
 use Rattle.tap_world.specs.declared.event.EventKind.TheVariants as kind
 use Rattle.core_shared.specs.declared.doing.Doing.TheVariants as doing
 use Rattle.std.specs.Prelude.{IfSome, slice_get}
-use Rattle.tap_frame.specs.declared.name.Name.{Name}
 use Rattle.tap_guests.specs.Backs.{front_of}
 use Rattle.tap_lines.specs.Framed.{IsFrameOf}
 use Rattle.tap_trace.specs.declared.answer.Answer.TheVariants as answer
