@@ -66,19 +66,22 @@ file_event {T} a so_far k x file change find goes r files has row after =
     let is : changes_file file change (goes f.0 t.0) x ≡ r = some_same _ _ t.2 in
     let p = placed_at file x.files f.0 f.1 in
     let after_it : files_after (OnFile file change) (files_of x.files) ≡ Some files =
-        subst (λ (e : Effect). files_after e.files (files_of x.files) ≡ Some files) (sym is) after in
+    subst (λ (e : Effect). files_after e.files (files_of x.files) ≡ Some files) (sym is) after in
     let here = then_some (at (files_of x.files) file) (λ (g : File). changed change g >>= λ (h : File). Some (with_at file h (files_of x.files))) files after_it in
     let new = then_some (changed change here.0) (λ (h : File). Some (with_at file h (files_of x.files))) files here.2 in
     let same : here.0 ≡ p.0.file = some_same here.0 p.0.file (sym here.1 ∙ f.1 ∙ ap Some (sym p.2)) in
     let has_it : HasEffect a so_far k x (changes_file file change (goes f.0 t.0) x) =
-        subst (λ (e : Effect). HasEffect a so_far k x e) (sym is) has in
-    let may_it : MayChange change here.0 = ap (λ (o : Option File). is_some o) {y = Some new.0} new.1 in
-    (p.0, p.1, record {
-      may = subst (λ (g : File). MayChange change g) same may_it;
-      found = t.0;
-      is_found = subst (λ (g : File). find g ≡ Some t.0) (sym p.2) t.1;
-      has = subst (λ (g : File). HasEffect a so_far k x (changes_file file change (goes g t.0) x)) (sym p.2) has_it;
-    })
+    subst (λ (e : Effect). HasEffect a so_far k x e) (sym is) has in
+    let may_it : MayChange change here.0 = ap (λ (o : Option File). is_some o) {y = Some new.0} new.1 in (
+      p.0,
+      p.1,
+      record {
+        may = subst (λ (g : File). MayChange change g) same may_it;
+        found = t.0;
+        is_found = subst (λ (g : File). find g ≡ Some t.0) (sym p.2) t.1;
+        has = subst (λ (g : File). HasEffect a so_far k x (changes_file file change (goes g t.0) x)) (sym p.2) has_it;
+      },
+    )
 
 -- the file that is there
 pub there : {T : Type 0} (a : Asking) (so_far : come.Doing) (k : EventKind) (x : Shared) (file : ℕ) (change : Change)

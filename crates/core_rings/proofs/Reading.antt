@@ -19,11 +19,10 @@ use Rattle.tap_world.specs.declared.event.EventKind.TheVariants as kind
 use Rattle.tap_world.specs.declared.line.Entry.{Entry}
 use Rattle.tap_world.specs.declared.line.Standing.{Standing}
 use Rattle.tap_world.specs.Effect.{Effect}
-use Rattle.tap_world.specs.Effect.OnFiles.{OnFile}
 use Rattle.tap_world.specs.Effect.Onward.{Ends}
 use Rattle.tap_world.specs.Frames.{FrameText, Front, least_in, text_in}
 use Rattle.tap_world.specs.Line.{File, first_that, front_place, in_batch}
-use Rattle.tap_world.specs.LineSteps.{Change, ready_front}
+use Rattle.tap_world.specs.LineSteps.{ready_front}
 use Rattle.tap_world.specs.LineSteps.Change.{Leaves}
 use Rattle.tap_world.specs.Setup.{Setup, frame_of, frame_sent}
 use Rattle.tap_world.specs.SoundActors.{reads_from}
@@ -60,43 +59,54 @@ pub record ReadsSo (a : Asking) (x : Shared) (file room : ℕ) (shape : Shape) (
   pub has : HasEffect a (Reads file room (front_of shape)) kind.Out x
       (changes_file file (Leaves None fate.Read) (read_told p.file (front_of shape) room a.seen index entry frame) x)
 
-effect_files : (file : ℕ) (change : Change) (r e : Effect) → r ≡ e → r.files ≡ OnFile file change → OnFile file change ≡ e.files
-effect_files file change r e is h = sym h ∙ ap (λ (q : Effect). q.files) is
+-- the effect of a read that takes this entry
+abbrev takes : Asking → Shared → ℕ → ℕ → Shape → File → ℕ → Entry → FrameText → Effect
+takes a x file room shape f i e t = changes_file file (Leaves None fate.Read) (read_told f (front_of shape) room a.seen i e t) x
+
+reads_so : (a : Asking) (x : Shared) (file room : ℕ) (shape : Shape) (p : Placed) (m : MayDo a (doing.Reads file room shape) kind.Out x) (i : ℕ) (e : Entry)
+    (t : FrameText) → at x.files file ≡ Some p → first_that in_batch p.file.line ≡ Some i → slice_get p.file.line i ≡ Some e
+    → frame_of (setup a) e.name e.len ≡ Some t → m.event.effect ≡ takes a x file room shape p.file i e t
+    → HasEffect a (Reads file room (front_of shape)) kind.Out x m.event.effect → ReadsSo a x file room shape p
+reads_so a x file room shape p m i e t is first is_entry is_frame its has = record {
+  index = i;
+  first = first;
+  entry = e;
+  is_entry = is_entry;
+  frame = t;
+  is_frame = is_frame;
+  may = may_change m file (Leaves None fate.Read) p is (ap (λ (r : Effect). r.files) its);
+  has = subst (λ (r : Effect). HasEffect a (Reads file room (front_of shape)) kind.Out x r) its has;
+}
+
+-- what is found on the way to it
+reads_by : (a : Asking) (x : Shared) (file room : ℕ) (shape : Shape) (p : Placed) (m : MayDo a (doing.Reads file room shape) kind.Out x)
+    → at x.files file ≡ Some p → HasEffect a (Reads file room (front_of shape)) kind.Out x m.event.effect
+    → (first_that in_batch p.file.line >>= λ (i : ℕ). slice_get p.file.line i >>= λ (e : Entry).
+    frame_of (setup a) e.name e.len >>= λ (t : FrameText). Some (takes a x file room shape p.file i e t)) ≡ Some m.event.effect
+    → ReadsSo a x file room shape p
+reads_by a x file room shape p m is has row =
+    let i = then_some (first_that in_batch p.file.line) _ m.event.effect row in
+    let e = then_some (slice_get p.file.line i.0) _ m.event.effect i.2 in
+    let t = then_some (frame_of (setup a) e.0.name e.0.len) _ m.event.effect e.2 in
+    reads_so a x file room shape p m i.0 e.0 t.0 is i.1 e.1 t.1 (sym (some_same _ m.event.effect t.2)) has
 
 pub read_event : (a : Asking) (x : Shared) (file room : ℕ) (shape : Shape) (p : Placed) → MayDo a (doing.Reads file room shape) kind.Out x
     → at x.files file ≡ Some p → ReadsSo a x file room shape p
 read_event a x file room shape p m is =
-    let s = setup a in
     let w : World = world_in x m.actors m.said in
     let front : Front = front_of shape in
-    let row = or_first (leaves s w a.seen (Reads file room front)) (turns w a.actor a.number a.seen (Reads file room front) a.command)
-        m.event.effect m.event.is_row (no_turn w a.command) in
-    let eff : File → ℕ → Entry → FrameText → Effect = λ f i e t. changes_file file (Leaves None fate.Read) (read_told f front room a.seen i e t) x in
-    let f = then_some (at (files_of x.files) file)
-        (λ (f : File). first_that in_batch f.line >>= λ (i : ℕ). slice_get f.line i >>= λ (e : Entry). frame_of s e.name e.len >>= λ (t : FrameText). Some (eff f i e t))
-        m.event.effect row in
+    let row = or_first (leaves (setup a) w a.seen (Reads file room front)) (turns w a.actor a.number a.seen (Reads file room front) a.command)
+    m.event.effect m.event.is_row (no_turn w a.command) in
+    let f = then_some (at (files_of x.files) file) _ m.event.effect row in
     let same : f.0 ≡ p.file = some_same f.0 p.file (sym f.1 ∙ file_at file x.files p is) in
-    let here = subst (λ (f : File). (first_that in_batch f.line >>= λ (i : ℕ). slice_get f.line i >>= λ (e : Entry). frame_of s e.name e.len >>= λ (t : FrameText). Some (eff f i e t)) ≡ Some m.event.effect) same f.2 in
-    let i = then_some (first_that in_batch p.file.line) (λ (i : ℕ). slice_get p.file.line i >>= λ (e : Entry). frame_of s e.name e.len >>= λ (t : FrameText). Some (eff p.file i e t)) m.event.effect here in
-    let e = then_some (slice_get p.file.line i.0) (λ (e : Entry). frame_of s e.name e.len >>= λ (t : FrameText). Some (eff p.file i.0 e t)) m.event.effect i.2 in
-    let t = then_some (frame_of s e.0.name e.0.len) (λ (t : FrameText). Some (eff p.file i.0 e.0 t)) m.event.effect e.2 in
-    let its : eff p.file i.0 e.0 t.0 ≡ m.event.effect = some_same _ _ t.2 in
-    let files_is : m.event.effect.files ≡ OnFile file (Leaves None fate.Read) = sym (effect_files file (Leaves None fate.Read) (eff p.file i.0 e.0 t.0) m.event.effect its refl) in
-    let all : HasEffect a (Reads file room front) kind.Out x m.event.effect = record {
-          is_next = λ actors said. m.event.is_next;
-          is_row = λ actors said rest.
-              ap (λ o. or_else o (turns (world_in x actors said) a.actor a.number a.seen (Reads file room front) a.command)) row;
-        } in
-    record {
-      index = i.0;
-      first = i.1;
-      entry = e.0;
-      is_entry = e.1;
-      frame = t.0;
-      is_frame = t.1;
-      may = may_change m file (Leaves None fate.Read) p is files_is;
-      has = subst (λ (r : Effect). HasEffect a (Reads file room front) kind.Out x r) (sym its) all;
-    }
+    reads_by a x file room shape p m is
+    (record {
+      is_next = λ actors said. m.event.is_next;
+      is_row = λ actors said rest.
+          ap (λ o. or_else o (turns (world_in x actors said) a.actor a.number a.seen (Reads file room front) a.command)) row;
+    })
+    (subst (λ (g : File). (first_that in_batch g.line >>= λ (i : ℕ). slice_get g.line i >>= λ (e : Entry).
+    frame_of (setup a) e.name e.len >>= λ (t : FrameText). Some (takes a x file room shape g i e t)) ≡ Some m.event.effect) same f.2)
 
 -- the room holds what stands in front
 room_of : (t : Table) (c : Command) (file room : ℕ) (front : Front) → reads_from file c ≡ true → FoundIn t c (Reads file room front) → least_in front ≤ room
@@ -119,11 +129,11 @@ text_is s shape frame e t room sent name mark its = go (frame_sent s frame.name)
     go None is = absurd (cc (again, is))
     go (Some f) is =
         let kept = some_same _ _ (sym (ap (λ (o : Option FrameText).
-            option_map (λ (g : FrameText). record { name = frame.name; hdr = g.hdr; made = g.ether; mark = min frame.mark (length g.ether) }) o) is) ∙ sent) in
+        option_map (λ (g : FrameText). record { name = frame.name; hdr = g.hdr; made = g.ether; mark = min frame.mark (length g.ether) }) o) is) ∙ sent) in
         let hdr : f.hdr ≡ frame.hdr = ap (λ (g : FrameValue). g.hdr) kept in
         let made : f.ether ≡ frame.made = ap (λ (g : FrameValue). g.made) kept in
         let text_of : record { hdr = f.hdr; ether = take frame.mark f.ether } ≡ t = some_same _ _ (sym (ap (λ (o : Option FrameText).
-            option_map (λ (g : FrameText). record g { ether = take frame.mark g.ether }) o) is) ∙ again) in
+        option_map (λ (g : FrameText). record g { ether = take frame.mark g.ether }) o) is) ∙ again) in
         ap (λ (h : List ℕ). text shape h (take frame.mark frame.made) room) (sym hdr)
         ∙ ap (λ (b : List ℕ). text shape f.hdr (take frame.mark b) room) (sym made)
         ∙ ap (λ (g : FrameText). text_in (front_of shape) g room) text_of
@@ -144,16 +154,16 @@ pub owner_event : (a : Asking) (x : Shared) (file room : ℕ) (shape : Shape) �
 owner_event a x file room shape m =
     let front : Front = front_of shape in
     let row : meets_worker (world_in x [] []) a.seen (Reads file room front) ≡ Some m.event.effect =
-        sym (or_nothing (meets_worker (world_in x [] []) a.seen (Reads file room front)))
-        ∙ sym (owner_read (world_in x m.actors m.said) a.actor a.seen file room front a.command (can_be_now m)) ∙ m.event.is_row in
+    sym (or_nothing (meets_worker (world_in x [] []) a.seen (Reads file room front)))
+    ∙ sym (owner_read (world_in x m.actors m.said) a.actor a.seen file room front a.command (can_be_now m)) ∙ m.event.is_row in
     let f = then_some (at (files_of x.files) file) (λ (f : File). only_if (is_some f.owner) (keeps (Ends a.seen answer.Busy) x)) m.event.effect row in
     let its : keeps (Ends a.seen answer.Busy) x ≡ m.event.effect = (only_some (is_some f.0.owner) (keeps (Ends a.seen answer.Busy) x) m.event.effect f.2).1 in
     let all : HasEffect a (Reads file room front) kind.Owner x m.event.effect = record {
-          is_next = λ actors said. m.event.is_next;
-          is_row = λ actors said rest.
-              owner_read (world_in x actors said) a.actor a.seen file room front a.command (can_be_now m)
-              ∙ or_nothing (meets_worker (world_in x [] []) a.seen (Reads file room front)) ∙ row;
-        } in
+      is_next = λ actors said. m.event.is_next;
+      is_row = λ actors said rest.
+          owner_read (world_in x actors said) a.actor a.seen file room front a.command (can_be_now m)
+          ∙ or_nothing (meets_worker (world_in x [] []) a.seen (Reads file room front)) ∙ row;
+    } in
     subst (λ (r : Effect). HasEffect a (Reads file room front) kind.Owner x r) (sym its) all
 
 pub none_event : (a : Asking) (x : Shared) (file room : ℕ) (shape : Shape) (p : Placed) → MayDo a (doing.Reads file room shape) kind.NotReady x
@@ -163,13 +173,13 @@ none_event a x file room shape p m is =
     let front : Front = front_of shape in
     let eff : File → Effect = λ f. keeps (Ends a.seen (answer.Again (front_place f))) x in
     let row : finds_none (world_in x [] []) a.seen (Reads file room front) ≡ Some m.event.effect =
-        sym (or_nothing (finds_none (world_in x [] []) a.seen (Reads file room front))) ∙ m.event.is_row in
+    sym (or_nothing (finds_none (world_in x [] []) a.seen (Reads file room front))) ∙ m.event.is_row in
     let f = then_some (at (files_of x.files) file) (λ (f : File). only_if (is_none (first_that in_batch f.line) && is_none (ready_front f.line)) (eff f))
-        m.event.effect row in
+    m.event.effect row in
     let same : f.0 ≡ p.file = some_same f.0 p.file (sym f.1 ∙ file_at file x.files p is) in
     let its : eff p.file ≡ m.event.effect = ap eff (sym same) ∙ (only_some _ (eff f.0) m.event.effect f.2).1 in
     let all : HasEffect a (Reads file room front) kind.NotReady x m.event.effect =
-        record { is_next = λ actors said. m.event.is_next; is_row = λ actors said rest. m.event.is_row } in
+    record { is_next = λ actors said. m.event.is_next; is_row = λ actors said rest. m.event.is_row } in
     subst (λ (r : Effect). HasEffect a (Reads file room front) kind.NotReady x r) (sym its) all
 
 -- ---- a place

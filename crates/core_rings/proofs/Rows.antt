@@ -124,7 +124,7 @@ pub purge_event : (a : Asking) (x : Shared) (file version : ℕ) → MayDo a (do
 purge_event a x file version m =
     let w : World = world_in x m.actors m.said in
     let row = or_first (leaves (setup a) w a.seen (Purges file version)) (turns w a.actor a.number a.seen (Purges file version) a.command)
-        m.event.effect m.event.is_row (no_turn w a.command) in
+    m.event.effect m.event.is_row (no_turn w a.command) in
     file_event a (Purges file version) kind.Out x file (Leaves None (fate.Discarded cause.Purged))
     (λ f. name_at f.line (first_that in_batch f.line)) (λ f name. Stays (found.Moved name))
     m.event.effect m.event.files

@@ -47,19 +47,19 @@ pub publish_event : (a : Asking) (x : Shared) (file capacity places n : ℕ) (p 
 publish_event a x file capacity places n p m is =
     let w : World = world_in x [] [] in
     let row_at : List Actor → List Said → List Numbered → Command → _ =
-        λ actors said rest c. row (setup a) (world_in x actors said) kind.Publish a.actor (actor_at a (Shrinks file places n) rest) a.number c in
+    λ actors said rest c. row (setup a) (world_in x actors said) kind.Publish a.actor (actor_at a (Shrinks file places n) rest) a.number c in
     let row_is : row_at [] [] [] (command.Resize file capacity) ≡ Some m.event.effect =
-        sym (ap (row_at m.actors m.said m.rest) m.suits) ∙ m.event.is_row in
+    sym (ap (row_at m.actors m.said m.rest) m.suits) ∙ m.event.is_row in
     let held = if_some (holds_writer w a.actor && is_none (refuse (table (setup a) w) (op.Resize file capacity)))
-        (publishes_own w (op.Resize file capacity) (Shrinks file places n)) m.event.effect row_is in
+    (publishes_own w (op.Resize file capacity) (Shrinks file places n)) m.event.effect row_is in
     let f = then_some (at (files_of x.files) file) (λ (f : File). Some (tells x file capacity places n f)) m.event.effect held.1 in
     let same : f.0 ≡ p.file = some_same f.0 p.file (sym f.1 ∙ file_at file x.files p is) in
     let its : tells x file capacity places n p.file ≡ m.event.effect =
-        ap (tells x file capacity places n) (sym same) ∙ some_same _ m.event.effect f.2 in
+    ap (tells x file capacity places n) (sym same) ∙ some_same _ m.event.effect f.2 in
     let all : HasEffect a (Shrinks file places n) kind.Publish x m.event.effect = record {
-          is_next = λ actors said. m.event.is_next;
-          is_row = λ actors said rest. ap (row_at actors said rest) m.suits ∙ row_is;
-        } in
+      is_next = λ actors said. m.event.is_next;
+      is_row = λ actors said rest. ap (row_at actors said rest) m.suits ∙ row_is;
+    } in
     subst (λ (r : Effect). HasEffect a (Shrinks file places n) kind.Publish x r) (sym its) all
 
 -- with the operation published and the writer given back
@@ -75,19 +75,19 @@ publish_done a x file capacity places n p new version free m is told number free
     let next : ℕ = length x.ops.ops + 1 in
     let held = held_told (setup a) x one m.held in
     let did : Did a (doing.Shrinks file capacity places n) kind.Publish x (with_told (told_more one x.ops) x)
-            (on.Ends next (answer.Resized next places (freed p.file) n)) =
-        record {
-          effect = tells x file capacity places n p.file;
-          has = publish_event a x file capacity places n p m is;
-          left = told_left one (Ends next (answer.Resized next places (freed p.file) n)) None a x [] [] refl;
-          onward = refl;
-          held = record { table = held.table; frames = held.frames; vhosts = held.vhosts };
-          suits = tt;
-          stay = turns_same a.actor x.vhosts;
-        } in
+    (on.Ends next (answer.Resized next places (freed p.file) n)) =
+    record {
+      effect = tells x file capacity places n p.file;
+      has = publish_event a x file capacity places n p m is;
+      left = told_left one (Ends next (answer.Resized next places (freed p.file) n)) None a x [] [] refl;
+      onward = refl;
+      held = record { table = held.table; frames = held.frames; vhosts = held.vhosts };
+      suits = tt;
+      stay = turns_same a.actor x.vhosts;
+    } in
     let version_is : version ≡ next = number ∙ ap (λ (t : Told). length t.ops) told ∙ length-append x.ops.ops (one ∷ []) in
     let goes : on.Ends version (answer.Resized version places free n) ≡ on.Ends next (answer.Resized next places (freed p.file) n) =
-        ap (λ v. on.Ends v (answer.Resized v places free n)) version_is ∙ ap (λ k. on.Ends next (answer.Resized next places k n)) free_is in
+    ap (λ v. on.Ends v (answer.Resized v places free n)) version_is ∙ ap (λ k. on.Ends next (answer.Resized next places k n)) free_is in
     subst (λ (t : Told). Did a (doing.Shrinks file capacity places n) kind.Publish x (with_told t x) (on.Ends version (answer.Resized version places free n)))
     (sym told)
     (subst (λ (g : Onward). Did a (doing.Shrinks file capacity places n) kind.Publish x (with_told (told_more one x.ops) x) g) (sym goes) did)

@@ -137,10 +137,7 @@ pub fn put(
     ensures went { Went asked.now (doing.Placed file place epoch frame) shared.old shared.new result }
 {
     let len = kept(&frame);
-    shared
-        .files
-        .side_mut(file)
-        .put(asked.actor(), place, frame);
+    shared.files.side_mut(file).put(asked.actor(), place, frame);
     Onward::Ends {
         seen: asked.seen(),
         answer: Answer::Placed {

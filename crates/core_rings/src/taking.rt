@@ -116,7 +116,13 @@ fn read_front(
 }
 
 // Move: the ring's front goes to the batch.
-fn move_to_read(shared: &mut Shared, asked: &Asked<'_>, file: u16, room: u32, shape: Shape) -> Onward
+fn move_to_read(
+    shared: &mut Shared,
+    asked: &Asked<'_>,
+    file: u16,
+    room: u32,
+    shape: Shape,
+) -> Onward
     requires may { MayDo asked.now (doing.Reads file room shape) kind.Move shared.old }
     ensures did { Did asked.now (doing.Reads file room shape) kind.Move shared.old shared.new result }
 {

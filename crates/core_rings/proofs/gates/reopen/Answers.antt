@@ -25,9 +25,12 @@ returns c =
     let m = may_do c.requires.may kind.Reopen (λ actors said. refl) in
     let e = here _ _ _ _ _ _ _ _ _ (reopen_event c.args.asked.now c.args.shared.now c.args.file c.args.op m) c.side_mut-side.ensures.value in
     let sent = frames_stay c.args.asked.now c.args.shared.now c.args.file c.side_mut-side.result.now c.reopen.new.self m.held c.side_mut-side.ensures.value
-        c.reopen.ensures.frames in
+    c.reopen.ensures.frames in
     let epoch = ap (λ (f : File). f.epoch) (only_some _ _ _ c.reopen.ensures.file).1 in
     record {
-      went = (kind.Reopen, file_done c.args.asked.now (doing.Opens c.args.file c.args.op) kind.Reopen c.args.shared.now c.args.file _ _ _ _ _
-      e.has m.held c.side_mut-side.ensures.value c.reopen.ensures.file sent (rw (c.seen.ensures, c.epoch-epoch.ensures, ← epoch) refl) m.suits);
+      went = (
+        kind.Reopen,
+        file_done c.args.asked.now (doing.Opens c.args.file c.args.op) kind.Reopen c.args.shared.now c.args.file _ _ _ _ _
+            e.has m.held c.side_mut-side.ensures.value c.reopen.ensures.file sent (rw (c.seen.ensures, c.epoch-epoch.ensures, ← epoch) refl) m.suits,
+      );
     }

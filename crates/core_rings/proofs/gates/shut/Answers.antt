@@ -24,6 +24,9 @@ returns c =
     let e = here _ _ _ _ _ _ _ _ _ (shut_event c.args.asked.now c.args.shared.now c.args.file c.args.version m) c.side_mut-side.ensures.value in
     let sent = frames_stay c.args.asked.now c.args.shared.now c.args.file c.side_mut-side.result.now c.shut.new.self m.held c.side_mut-side.ensures.value c.shut.ensures.frames in
     record {
-      went = (kind.Shut, file_done c.args.asked.now (doing.Withdrawn c.args.file c.args.version) kind.Shut c.args.shared.now c.args.file _ _ _ _ _
-      e.has m.held c.side_mut-side.ensures.value c.shut.ensures.file sent (rw (c.seen.ensures, c.claimed-claimed.ensures) refl) tt);
+      went = (
+        kind.Shut,
+        file_done c.args.asked.now (doing.Withdrawn c.args.file c.args.version) kind.Shut c.args.shared.now c.args.file _ _ _ _ _
+            e.has m.held c.side_mut-side.ensures.value c.shut.ensures.file sent (rw (c.seen.ensures, c.claimed-claimed.ensures) refl) tt,
+      );
     }

@@ -15,7 +15,7 @@ pub returns : goal.returns
 returns c =
     let m = c.requires.may in
     let e = drop_event c.args.asked.now _ kind.Spent c.args.shared.now c.args.file (spent_now c.args.epoch) m.event.effect c.side.result.now
-        (record { is_next = λ actors said. m.event.is_next; is_row = λ actors said rest. m.event.is_row }) m.event.is_row c.side.ensures in
+    (record { is_next = λ actors said. m.event.is_next; is_row = λ actors said rest. m.event.is_row }) m.event.is_row c.side.ensures in
     record {
       did = drop_result c.args.asked.now (doing.Routed c.args.file c.args.epoch c.args.frame) kind.Spent c.args.shared.now c.args.file e.0 _ _ _
           c.drop_frame.result e.2 m.held m.suits.name (rw (c.claimed.ensures) (only_some _ _ _ e.1).1) c.drop_frame.ensures.dropped c.drop_frame.ensures.ends;

@@ -51,12 +51,15 @@ pub returns : goal.returns
 returns c =
     let m = may_do c.requires.may kind.Ready (λ actors said. refl) in
     let sent = subst (λ (l : List (Option FrameValue)). AreSent (setup c.args.asked.now) l) (sym c.put.ensures.frames)
-        (sent_with (setup c.args.asked.now) c.side_mut.result.now.frames (c.args.place - c.side_mut.result.now.file.first) c.args.frame m.suits.sent
-        (sent_of (setup c.args.asked.now) c.args.shared.now c.args.file c.side_mut.result.now m.held c.side_mut.ensures.value)) in
+    (sent_with (setup c.args.asked.now) c.side_mut.result.now.frames (c.args.place - c.side_mut.result.now.file.first) c.args.frame m.suits.sent
+    (sent_of (setup c.args.asked.now) c.args.shared.now c.args.file c.side_mut.result.now m.held c.side_mut.ensures.value)) in
     record {
-      went = (kind.Ready, file_done c.args.asked.now (doing.Placed c.args.file c.args.place c.args.epoch c.args.frame) kind.Ready c.args.shared.now
-      c.args.file (Puts c.args.asked.now.actor c.args.place)
-      (Ends c.args.asked.now.seen (answer.Placed c.args.file c.args.place c.args.epoch c.args.frame.mark)) _ c.side_mut.result.now c.put.new.self
-      (record { is_next = λ actors said. refl; is_row = λ actors said rest. refl }) m.held c.side_mut.ensures.value
-      (rw c.actor.ensures at c.put.ensures.file) sent (rw (c.seen.ensures, c.kept-len.ensures) refl) tt);
+      went = (
+        kind.Ready,
+        file_done c.args.asked.now (doing.Placed c.args.file c.args.place c.args.epoch c.args.frame) kind.Ready c.args.shared.now
+            c.args.file (Puts c.args.asked.now.actor c.args.place)
+            (Ends c.args.asked.now.seen (answer.Placed c.args.file c.args.place c.args.epoch c.args.frame.mark)) _ c.side_mut.result.now c.put.new.self
+            (record { is_next = λ actors said. refl; is_row = λ actors said rest. refl }) m.held c.side_mut.ensures.value
+            (rw c.actor.ensures at c.put.ensures.file) sent (rw (c.seen.ensures, c.kept-len.ensures) refl) tt,
+      );
     }

@@ -23,7 +23,7 @@ cuts_few : (a : Asking) (x : Shared) (file capacity places n : ℕ) → MayDo a 
 cuts_few a x file capacity places n m =
     let now = ap (λ (c : Command). Some (numbered a.number c)) m.suits in
     let s : IsShrinking (setup a) (world_in x m.actors m.said) a.actor file places n capacity =
-        m.steady.sized a.actor (actor_at a (Shrinks file places n) m.rest) m.is_actor a.number file capacity file places n now refl in
+    m.steady.sized a.actor (actor_at a (Shrinks file places n) m.rest) m.is_actor a.number file capacity file places n now refl in
     let room = (m.sound.lines file s.f s.is_there).ordered.places in
     let most = s.most in
     let many = s.as_many in
@@ -41,17 +41,17 @@ side_mut-requires c =
 pub cut-requires : goal.cut-requires
 cut-requires c =
     let e = here _ _ _ _ _ _ _ _ _ (cut_event c.args.asked.now c.args.shared.now c.args.file c.args.capacity c.args.claimed c.args.cuts c.requires.may)
-        c.side_mut.ensures.value in
+    c.side_mut.ensures.value in
     e.may
 
 pub returns : goal.returns
 returns c =
     let m = c.requires.may in
     let e = here _ _ _ _ _ _ _ _ _ (cut_event c.args.asked.now c.args.shared.now c.args.file c.args.capacity c.args.claimed c.args.cuts m)
-        c.side_mut.ensures.value in
+    c.side_mut.ensures.value in
     let line = c.side_mut.result.now.file.line in
     let sent = frames_go c.args.asked.now c.args.shared.now c.args.file c.side_mut.result.now _ _ _ m.held c.side_mut.ensures.value
-        c.cut.ensures.frame in
+    c.cut.ensures.frame in
     let name = c.end-name.ensures ∙ goes_named line (last_that in_ring line) c.cut.result e.found c.cut.ensures.frame.its e.is_found in
     record {
       did = file_done c.args.asked.now (doing.Shrinks c.args.file c.args.capacity c.args.claimed c.args.cuts) kind.Cut c.args.shared.now c.args.file

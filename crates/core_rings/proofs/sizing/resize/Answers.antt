@@ -23,8 +23,11 @@ returns c =
     let m = may_do c.requires.may kind.Resize (λ actors said. refl) in
     let e = here _ _ _ _ _ _ _ _ _ (resize_event c.args.asked.now c.args.shared.now c.args.file c.args.capacity m) c.side_mut-side.ensures.value in
     let sent = frames_stay c.args.asked.now c.args.shared.now c.args.file c.side_mut-side.result.now c.resize.new.self m.held c.side_mut-side.ensures.value
-        c.resize.ensures.frames in
+    c.resize.ensures.frames in
     record {
-      went = (kind.Resize, file_done c.args.asked.now (doing.Resizes c.args.file c.args.capacity) kind.Resize c.args.shared.now c.args.file _ _ _ _ _
-      e.has m.held c.side_mut-side.ensures.value c.resize.ensures.file sent (rw (c.seen.ensures, c.claimed-claimed.ensures) refl) m.suits);
+      went = (
+        kind.Resize,
+        file_done c.args.asked.now (doing.Resizes c.args.file c.args.capacity) kind.Resize c.args.shared.now c.args.file _ _ _ _ _
+            e.has m.held c.side_mut-side.ensures.value c.resize.ensures.file sent (rw (c.seen.ensures, c.claimed-claimed.ensures) refl) m.suits,
+      );
     }

@@ -20,7 +20,7 @@ returns c =
     let m = c.requires.may in
     let e = here _ _ _ _ _ _ _ _ _ (move_to_purge_event c.args.asked.now c.args.shared.now c.args.file c.args.version m) c.side_mut.ensures.value in
     let sent = frames_stay c.args.asked.now c.args.shared.now c.args.file c.side_mut.result.now c.move_front-name.new.self m.held c.side_mut.ensures.value
-        c.move_front-name.ensures.frames in
+    c.move_front-name.ensures.frames in
     let name = some_same c.move_front-name.result e.found (sym c.move_front-name.ensures.name ∙ e.is_found) in
     record {
       did = file_done c.args.asked.now (doing.Purges c.args.file c.args.version) kind.Move c.args.shared.now c.args.file _ _ _ _ _

@@ -20,7 +20,7 @@ returns c =
     let m = c.requires.may in
     let e = here _ _ _ _ _ _ _ _ _ (purge_event c.args.asked.now c.args.shared.now c.args.file c.args.version m) c.side_mut-side.ensures.value in
     let sent = frames_go c.args.asked.now c.args.shared.now c.args.file c.side_mut-side.result.now _ _ _ m.held c.side_mut-side.ensures.value
-        c.leave.ensures.frame in
+    c.leave.ensures.frame in
     let name = c.end-name.ensures ∙ goes_named c.side_mut-side.result.now.file.line (first_that in_batch c.side_mut-side.result.now.file.line) c.leave.result e.found c.leave.ensures.frame.its e.is_found in
     record {
       did = file_done c.args.asked.now (doing.Purges c.args.file c.args.version) kind.Out c.args.shared.now c.args.file _ _ _ _ _

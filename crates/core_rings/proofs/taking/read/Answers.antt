@@ -57,13 +57,16 @@ pub returns-then-is_some : goal.returns-then-is_some
 returns-then-is_some c =
     let owned = sym c.if-is_some.true ∙ c.is_some.ensures ∙ ap (λ o. is_some o) c.owner.ensures in
     let m = may_do c.requires.may kind.Owner (λ actors said.
-        next_on c.args.shared.now actors said c.args.file c.side-side.result.now read_next c.side-side.ensures ∙ ap Some (first _ _ _ owned)) in
+    next_on c.args.shared.now actors said c.args.file c.side-side.result.now read_next c.side-side.ensures ∙ ap Some (first _ _ _ owned)) in
     let did = same_done c.args.asked.now (doing.Reads c.args.file c.args.room c.args.shape) kind.Owner c.args.shared.now _
-        (on.Ends c.args.asked.now.seen answer.Busy)
-        (owner_event c.args.asked.now c.args.shared.now c.args.file c.args.room c.args.shape m) m.held refl tt in
+    (on.Ends c.args.asked.now.seen answer.Busy)
+    (owner_event c.args.asked.now c.args.shared.now c.args.file c.args.room c.args.shape m) m.held refl tt in
     record {
-      went = (kind.Owner, subst (λ (g : Onward). Did c.args.asked.now (doing.Reads c.args.file c.args.room c.args.shape) kind.Owner c.args.shared.now c.args.shared.now g)
-      (sym c.answer.ensures) did);
+      went = (
+        kind.Owner,
+        subst (λ (g : Onward). Did c.args.asked.now (doing.Reads c.args.file c.args.room c.args.shape) kind.Owner c.args.shared.now c.args.shared.now g)
+            (sym c.answer.ensures) did,
+      );
     }
 
 pub returns-else-is_some-2 : goal.returns-else-is_some-2
@@ -71,13 +74,16 @@ returns-else-is_some-2 c =
     let unowned = sym c.if-is_some.false ∙ c.is_some.ensures ∙ ap (λ o. is_some o) c.owner.ensures in
     let unready = sym c.if-is_some-2.false ∙ c.is_some-else-has_batch.ensures ∙ ap (λ o. is_some o) c.ready_front.ensures in
     let m = may_do c.requires.may kind.NotReady (λ actors said.
-        next_on c.args.shared.now actors said c.args.file c.side-side.result.now read_next c.side-side.ensures
-        ∙ ap Some (last _ _ _ unowned (sym c.if-has_batch.false ∙ c.has_batch.ensures) unready)) in
+    next_on c.args.shared.now actors said c.args.file c.side-side.result.now read_next c.side-side.ensures
+    ∙ ap Some (last _ _ _ unowned (sym c.if-has_batch.false ∙ c.has_batch.ensures) unready)) in
     let did = same_done c.args.asked.now (doing.Reads c.args.file c.args.room c.args.shape) kind.NotReady c.args.shared.now _
-        (on.Ends c.args.asked.now.seen (answer.Again (front_place c.side-side.result.now.file)))
-        (none_event c.args.asked.now c.args.shared.now c.args.file c.args.room c.args.shape c.side-side.result.now m c.side-side.ensures) m.held refl tt in
+    (on.Ends c.args.asked.now.seen (answer.Again (front_place c.side-side.result.now.file)))
+    (none_event c.args.asked.now c.args.shared.now c.args.file c.args.room c.args.shape c.side-side.result.now m c.side-side.ensures) m.held refl tt in
     let told = c.answer-else-is_some-2.ensures ∙ ap (λ n. on.Ends c.args.asked.now.seen (answer.Again n)) c.front_place-place.ensures in
     record {
-      went = (kind.NotReady, subst (λ (g : Onward). Did c.args.asked.now (doing.Reads c.args.file c.args.room c.args.shape) kind.NotReady c.args.shared.now c.args.shared.now g)
-      (sym told) did);
+      went = (
+        kind.NotReady,
+        subst (λ (g : Onward). Did c.args.asked.now (doing.Reads c.args.file c.args.room c.args.shape) kind.NotReady c.args.shared.now c.args.shared.now g)
+            (sym told) did,
+      );
     }

@@ -49,17 +49,17 @@ returns c =
     let frame = c.leave-frame.result in
     let e = read_event a c.args.shared.now c.args.file c.args.room c.args.shape side m c.side_mut-side.ensures.value in
     let its : IsFrameOf e.entry frame =
-        if_there (slice_get side.file.line e.index) (λ (d : Entry). IsFrameOf d frame) e.entry e.is_entry
-        (if_there (first_that in_batch side.file.line) (λ (i : ℕ). IfSome (slice_get side.file.line i) (λ (d : Entry). IsFrameOf d frame)) e.index e.first
-        c.leave-frame.ensures.frame.its) in
+    if_there (slice_get side.file.line e.index) (λ (d : Entry). IsFrameOf d frame) e.entry e.is_entry
+    (if_there (first_that in_batch side.file.line) (λ (i : ℕ). IfSome (slice_get side.file.line i) (λ (d : Entry). IsFrameOf d frame)) e.index e.first
+    c.leave-frame.ensures.frame.its) in
     let was = sent_of (setup a) c.args.shared.now c.args.file side m.held c.side_mut-side.ensures.value c.leave-frame.ensures.frame.index frame
-        c.leave-frame.ensures.frame.stood in
+    c.leave-frame.ensures.frame.stood in
     let bytes = c.in_ok-bytes.ensures ∙ text_is (setup a) c.args.shape frame e.entry e.frame c.args.room was its.name its.mark e.is_frame in
     let place = if_there (first_that in_batch side.file.line) (λ (i : ℕ). c.batch_place-place.result ≡ side.file.first + i) e.index e.first
-        c.batch_place-place.ensures in
+    c.batch_place-place.ensures in
     let name = c.name-name.ensures ∙ its.name in
     let told : c.answer.result ≡ on.Ends a.seen (answer.Read e.entry.name (side.file.first + e.index) (text_in (front_of c.args.shape) e.frame c.args.room)) =
-        c.answer.ensures ∙ rw (name, place, bytes) refl in
+    c.answer.ensures ∙ rw (name, place, bytes) refl in
     let sent = frames_go a c.args.shared.now c.args.file side _ _ _ m.held c.side_mut-side.ensures.value c.leave-frame.ensures.frame in
     record {
       did = file_done a (doing.Reads c.args.file c.args.room c.args.shape) kind.Out c.args.shared.now c.args.file _ _ c.answer.result _ _
