@@ -299,19 +299,56 @@ sent_more s [] h (suc i) frame e = absurd (cc (e))
 sent_more s (x ∷ xs) h zero frame e = h 0 frame e
 sent_more s (x ∷ xs) h (suc i) frame e = sent_more s xs (λ j. h (suc j)) i frame e
 
--- ---- what always holds
+-- ---- what always holds, part by part
 
--- what the table isn't told, files, guests and vhosts are held by the same
-pub held_files : (s : Setup) (x : Shared) (file : ℕ) (new : Placed) → IsHeld s x → AreSent s new.frames
-    → IsHeld s (record x { files = with_at file new x.files })
-held_files s x file new h sent = record { table = h.table; frames = each; vhosts = h.vhosts }
-  where
-    each : (k i : ℕ) (p : Placed) (frame : FrameValue) → at (with_at file new x.files) k ≡ Some p
-        → slice_get p.frames i ≡ Some (Some frame) → IsSent s frame
-    each k i p frame e is = elim (with_at_is file new x.files k p e) [
-      | inl t ↦ sent i frame (ap (λ (q : Placed). slice_get q.frames i) t.1 ∙ is)
-      | inr t ↦ h.frames k i p frame t.1 is
-    ]
+-- each frame of a file is the one that was sent under its name
+abbrev pub FilesAreSent : Setup → List (Option Placed) → Type 0
+FilesAreSent s files =
+    (file i : ℕ) (p : Placed) (frame : FrameValue) → at files file ≡ Some p → slice_get p.frames i ≡ Some (Some frame) → IsSent s frame
+
+-- each vhost lies in the regions of its guest's memory
+abbrev pub VhostsLie : List (Option Guest) → List (Option Side) → Type 0
+VhostsLie guests vhosts =
+    (vhost : ℕ) (v : Side) → at vhosts vhost ≡ Some v → IfSome (at guests v.vhost.guest) (λ g. IsIn g.memory.regions v)
+
+-- with another file
+pub files_sent_with : (s : Setup) (files : List (Option Placed)) (file : ℕ) (new : Placed) → FilesAreSent s files → AreSent s new.frames
+    → FilesAreSent s (with_at file new files)
+files_sent_with s files file new h sent k i p frame e is = elim (with_at_is file new files k p e) [
+  | inl t ↦ sent i frame (ap (λ (q : Placed). slice_get q.frames i) t.1 ∙ is)
+  | inr t ↦ h k i p frame t.1 is
+]
+
+-- with another guest, whose memory keeps its regions
+pub guests_lie_with : (guests : List (Option Guest)) (vhosts : List (Option Side)) (guest : ℕ) (old new : Guest) → VhostsLie guests vhosts
+    → at guests guest ≡ Some old → new.memory.regions ≡ old.memory.regions → VhostsLie (with_at guest new guests) vhosts
+guests_lie_with guests vhosts guest old new h there same vhost v e =
+    if_any (at (with_at guest new guests) v.vhost.guest) (λ (g : Guest). IsIn g.memory.regions v) (λ g at_.
+    elim (with_at_is guest new guests v.vhost.guest g at_) [
+      | inl t ↦
+          let was : IsIn old.memory.regions v =
+          if_there (at guests v.vhost.guest) (λ (k : Guest). IsIn k.memory.regions v) old
+          (subst (λ (n : ℕ). at guests n ≡ Some old) t.0 there) (h vhost v e) in
+          subst (λ rs. IsIn rs v) (sym same ∙ ap (λ (k : Guest). k.memory.regions) t.1) was
+      | inr t ↦ if_there (at guests v.vhost.guest) (λ (k : Guest). IsIn k.memory.regions v) g t.1 (h vhost v e)
+    ])
+
+-- with another vhost, which lies in its guest's memory
+pub vhosts_lie_with : (guests : List (Option Guest)) (vhosts : List (Option Side)) (vhost : ℕ) (new : Side) → VhostsLie guests vhosts
+    → IfSome (at guests new.vhost.guest) (λ g. IsIn g.memory.regions new) → VhostsLie guests (with_at vhost new vhosts)
+vhosts_lie_with guests vhosts vhost new h lies k v e = elim (with_at_is vhost new vhosts k v e) [
+  | inl t ↦ subst (λ (w : Side). IfSome (at guests w.vhost.guest) (λ (g : Guest). IsIn g.memory.regions w)) t.1 lies
+  | inr t ↦ h k v t.1
+]
+
+-- one that stays where it was
+pub stays_in : (guests : List (Option Guest)) (vhosts : List (Option Side)) (vhost : ℕ) (old new : Side) → VhostsLie guests vhosts
+    → at vhosts vhost ≡ Some old → new.vhost.guest ≡ old.vhost.guest → StaysIn old new
+    → IfSome (at guests new.vhost.guest) (λ g. IsIn g.memory.regions new)
+stays_in guests vhosts vhost old new h there same stays =
+    if_any (at guests new.vhost.guest) (λ (g : Guest). IsIn g.memory.regions new) (λ g at_.
+    stays g.memory.regions (if_there (at guests old.vhost.guest) (λ (k : Guest). IsIn k.memory.regions old) g
+    (ap (λ (n : ℕ). at guests n) (sym same) ∙ at_) (h vhost old there)))
 
 -- one more operation
 after_more : (t : Table) (xs : List Op) (y : Op) → after_all t (xs ++ y ∷ []) ≡ after (after_all t xs) y
@@ -323,53 +360,59 @@ table_more first p t h =
     ap (λ (x : Table). after x p.op) h ∙ sym (after_more first (map (λ (q : Published). q.op) t.ops) p.op)
     ∙ ap (λ (l : List Op). after_all first l) (sym (map_push (λ (q : Published). q.op) t.ops p))
 
+-- ---- what always holds
+
+-- the same operations, files, guests and vhosts
+pub held_same : (s : Setup) (x y : Shared) → x.ops ≡ y.ops → x.files ≡ y.files → x.guests ≡ y.guests → x.vhosts ≡ y.vhosts → IsHeld s x → IsHeld s y
+held_same s x y ops files guests vhosts h = record {
+  table = subst (λ (t : Told). BeganAt (opening_table s) t) ops h.table;
+  frames = subst (λ (fs : List (Option Placed)). FilesAreSent s fs) files h.frames;
+  vhosts = subst (λ (vs : List (Option Side)). VhostsLie y.guests vs) vhosts
+      (subst (λ (gs : List (Option Guest)). VhostsLie gs x.vhosts) guests h.vhosts);
+}
+
+-- one more operation
 pub held_told : (s : Setup) (x : Shared) (p : Published) → IsHeld s x → IsHeld s (record x { ops = told_more p x.ops })
 held_told s x p h = record { table = table_more (opening_table s) p x.ops h.table; frames = h.frames; vhosts = h.vhosts }
+
+-- one file changed
+pub held_files : (s : Setup) (x : Shared) (file : ℕ) (new : Placed) → IsHeld s x → AreSent s new.frames
+    → IsHeld s (record x { files = with_at file new x.files })
+held_files s x file new h sent =
+    record { table = h.table; frames = files_sent_with s x.files file new h.frames sent; vhosts = h.vhosts }
 
 -- a guest whose memory keeps its regions
 pub held_guest : (s : Setup) (x : Shared) (guest : ℕ) (old new : Guest) → IsHeld s x → at x.guests guest ≡ Some old
     → new.memory.regions ≡ old.memory.regions → IsHeld s (record x { guests = with_at guest new x.guests })
-held_guest s x guest old new h there same = record { table = h.table; frames = h.frames; vhosts = each }
-  where
-    each : (vhost : ℕ) (v : Side) → at x.vhosts vhost ≡ Some v → IfSome (at (with_at guest new x.guests) v.vhost.guest) (λ (g : Guest). IsIn g.memory.regions v)
-    each vhost v e = if_any (at (with_at guest new x.guests) v.vhost.guest) (λ (g : Guest). IsIn g.memory.regions v) (λ g at_.
-        elim (with_at_is guest new x.guests v.vhost.guest g at_) [
-          | inl t ↦
-              let was : IsIn old.memory.regions v =
-              if_there (at x.guests v.vhost.guest) (λ (k : Guest). IsIn k.memory.regions v) old
-              (subst (λ (n : ℕ). at x.guests n ≡ Some old) t.0 there) (h.vhosts vhost v e) in
-              subst (λ rs. IsIn rs v) (sym same ∙ ap (λ (k : Guest). k.memory.regions) t.1) was
-          | inr t ↦ if_there (at x.guests v.vhost.guest) (λ (k : Guest). IsIn k.memory.regions v) g t.1 (h.vhosts vhost v e)
-        ])
+held_guest s x guest old new h there same =
+    record { table = h.table; frames = h.frames; vhosts = guests_lie_with x.guests x.vhosts guest old new h.vhosts there same }
 
 -- a vhost that lies in its guest's memory
 pub held_vhost : (s : Setup) (x : Shared) (vhost : ℕ) (new : Side) → IsHeld s x
     → IfSome (at x.guests new.vhost.guest) (λ g. IsIn g.memory.regions new)
     → IsHeld s (record x { vhosts = with_at vhost new x.vhosts })
-held_vhost s x vhost new h lies = record { table = h.table; frames = h.frames; vhosts = each }
-  where
-    each : (k : ℕ) (v : Side) → at (with_at vhost new x.vhosts) k ≡ Some v → IfSome (at x.guests v.vhost.guest) (λ (g : Guest). IsIn g.memory.regions v)
-    each k v e = elim (with_at_is vhost new x.vhosts k v e) [
-      | inl t ↦ subst (λ (w : Side). IfSome (at x.guests w.vhost.guest) (λ (g : Guest). IsIn g.memory.regions w)) t.1 lies
-      | inr t ↦ h.vhosts k v t.1
-    ]
+held_vhost s x vhost new h lies =
+    record { table = h.table; frames = h.frames; vhosts = vhosts_lie_with x.guests x.vhosts vhost new h.vhosts lies }
 
 -- one that stays where it was
 pub held_vhost_stays : (s : Setup) (x : Shared) (vhost : ℕ) (old new : Side) → IsHeld s x → at x.vhosts vhost ≡ Some old
     → new.vhost.guest ≡ old.vhost.guest → StaysIn old new → IsHeld s (record x { vhosts = with_at vhost new x.vhosts })
 held_vhost_stays s x vhost old new h there same stays =
-    held_vhost s x vhost new h (if_any (at x.guests new.vhost.guest) (λ (g : Guest). IsIn g.memory.regions new) (λ g at_.
-    stays g.memory.regions (if_there (at x.guests old.vhost.guest) (λ (k : Guest). IsIn k.memory.regions old) g
-    (ap (λ (n : ℕ). at x.guests n) (sym same) ∙ at_) (h.vhosts vhost old there))))
+    held_vhost s x vhost new h (stays_in x.guests x.vhosts vhost old new h.vhosts there same stays)
 
--- both: the vhost's guest keeps its regions, and the vhost stays in them
-pub held_both : (s : Setup) (x : Shared) (vhost : ℕ) (old new : Side) (g g' : Guest) → IsHeld s x → at x.vhosts vhost ≡ Some old
-    → at x.guests old.vhost.guest ≡ Some g → new.vhost.guest ≡ old.vhost.guest → g'.memory.regions ≡ g.memory.regions → IsIn g.memory.regions new
-    → IsHeld s (record x { guests = with_at old.vhost.guest g' x.guests; vhosts = with_at vhost new x.vhosts })
-held_both s x vhost old new g g' h there guest same regions lies =
-    let one : IsHeld s (record x { guests = with_at old.vhost.guest g' x.guests }) = held_guest s x old.vhost.guest g g' h guest regions in
-    held_vhost s (record x { guests = with_at old.vhost.guest g' x.guests }) vhost new one
-    (if_any (at (with_at old.vhost.guest g' x.guests) new.vhost.guest) (λ (k : Guest). IsIn k.memory.regions new) (λ k at_.
-    let here : at (with_at old.vhost.guest g' x.guests) new.vhost.guest ≡ Some g' =
-    ap (λ (n : ℕ). at (with_at old.vhost.guest g' x.guests) n) same ∙ with_at_here old.vhost.guest g' g x.guests guest in
-    subst (λ rs. IsIn rs new) (sym regions ∙ ap (λ (q : Guest). q.memory.regions) (some_same g' k (sym here ∙ at_))) lies))
+-- both: the vhost's guest keeps its regions, and the vhost lies in them
+pub held_both : (s : Setup) (x : Shared) (vhost : ℕ) (old new : Side) (was is : Guest) → IsHeld s x → at x.vhosts vhost ≡ Some old
+    → at x.guests old.vhost.guest ≡ Some was → new.vhost.guest ≡ old.vhost.guest → is.memory.regions ≡ was.memory.regions
+    → IsIn was.memory.regions new
+    → IsHeld s (record x { guests = with_at old.vhost.guest is x.guests; vhosts = with_at vhost new x.vhosts })
+held_both s x vhost old new was is h there guest same regions lies =
+    let guests : List (Option Guest) = with_at old.vhost.guest is x.guests in
+    record {
+      table = h.table;
+      frames = h.frames;
+      vhosts = vhosts_lie_with guests x.vhosts vhost new (guests_lie_with x.guests x.vhosts old.vhost.guest was is h.vhosts guest regions)
+          (if_any (at guests new.vhost.guest) (λ (k : Guest). IsIn k.memory.regions new) (λ k at_.
+          let here : at guests new.vhost.guest ≡ Some is =
+          ap (λ (n : ℕ). at guests n) same ∙ with_at_here old.vhost.guest is was x.guests guest in
+          subst (λ rs. IsIn rs new) (sym regions ∙ ap (λ (q : Guest). q.memory.regions) (some_same is k (sym here ∙ at_))) lies));
+    }

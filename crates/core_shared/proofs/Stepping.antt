@@ -120,6 +120,22 @@ made a d r old new on rest actors said left onward =
     ∙ ap (λ (o : Option (List (Option Guest))). o >>= λ guests. Some (built (files_of new.files) guests)) left.guests
     ∙ ap Some same
 
+-- with the detach that ends by it, and what the event answers
+landed : (a : Asking) (d : Doing) (kind : EventKind) (r : Effect) (old new : Shared) (on : Onward) (rest : List Numbered) (actors : List Actor)
+    (said : List Said) → IsLeft r a old new → written_out a.seen (come_of old.vhosts d) r.onward ≡ onward_of new.vhosts on
+    → stepped r (event_of a kind) (actor_at a (come_of old.vhosts d) rest) (world_in old actors said)
+    ≡ Some (
+      settled (world_on a d old new on rest actors said) (ending (world_on a d old new on rest actors said)),
+      heard_by a.actor (onward_of new.vhosts on) (ending (world_on a d old new on rest actors said)),
+    )
+landed a d kind r old new on rest actors said left onward =
+    let after : World = world_on a d old new on rest actors said in
+    let heard : heard_by a.actor r.onward (ending after) ≡ heard_by a.actor (onward_of new.vhosts on) (ending after) =
+    same_heard r.onward a.seen (come_of old.vhosts d) a.actor (ending after) ∙ ap (λ (o : Onto). heard_by a.actor o (ending after)) onward in
+    ap (λ (o : Option World). o >>= λ v. Some (settled v (ending v), heard_by a.actor r.onward (ending v)))
+    (made a d r old new on rest actors said left onward)
+    ∙ ap (λ (h : Heard). Some (settled after (ending after), h)) heard
+
 -- ---- the step
 
 pub steps : EventsMakeSteps
@@ -127,19 +143,15 @@ steps a d kind old new on rest actors said did here allowed =
     let s : Setup = setup a in
     let w : World = world_in old actors said in
     let e : Event = event_of a kind in
-    let so_far : come.Doing = come_of old.vhosts d in
-    let now : Actor = actor_at a so_far rest in
     let r : Effect = did.effect in
-    let after : World = world_on a d old new on rest actors said in
     let is_row : row_of s w e ≡ Some r =
-    row_is_its a so_far kind w rest r here (did.has.is_next actors said) (did.has.is_row actors said rest) in
+    row_is_its a (come_of old.vhosts d) kind w rest r here (did.has.is_next actors said) (did.has.is_row actors said rest) in
     let u = there (step s w e) allowed in
     let q = then_some (effect s w e) (λ x. slice_get w.actors e.actor >>= λ y. stepped x e y w) u.0 u.1 in
     let new_is : only_if (are_new w (names_of r)) r ≡ Some q.0 =
     sym (ap (λ (o : Option Effect). o >>= λ x. if_new w x) is_row) ∙ q.1 in
     let is_effect : effect s w e ≡ Some r = q.1 ∙ ap Some (sym (only_some (are_new w (names_of r)) r q.0 new_is).1) in
+    let begins : step s w e ≡ stepped r e (actor_at a (come_of old.vhosts d) rest) w =
     ap (λ (o : Option Effect). o >>= λ x. slice_get w.actors e.actor >>= λ y. stepped x e y w) is_effect
-    ∙ ap (λ (o : Option Actor). o >>= λ y. stepped r e y w) here
-    ∙ ap (λ (o : Option World). o >>= λ v. Some (settled v (ending v), heard_by a.actor r.onward (ending v))) (made a d r old new on rest actors said did.left did.onward)
-    ∙ ap (λ (h : Heard). Some (settled after (ending after), h))
-    (same_heard r.onward a.seen so_far a.actor (ending after) ∙ ap (λ (o : Onto). heard_by a.actor o (ending after)) did.onward)
+    ∙ ap (λ (o : Option Actor). o >>= λ y. stepped r e y w) here in
+    begins ∙ landed a d kind r old new on rest actors said did.left did.onward
