@@ -1,0 +1,5 @@
+mod Events
+mod Done
+mod Rows
+mod Reading
+mod Telling
