@@ -1,5 +1,5 @@
 -- The parts of phases, filled operation by operation and answer by answer, are those of the world.
-use Rattle.std.proofs.Common.{◌≡◌, ℕ, zero, suc, ◌+◌, ◌<◌, ◌≤◌, Bool, true, false, cond, if◌then◌else◌, List, [], ◌∷◌, ◌++◌, ◌==◌, ◌&&◌, length, take, drop, get_or, set, map, sym, ap, ◌∙◌, refl, append_assoc, arith}
+use Rattle.std.proofs.Common.{◌≡◌, ℕ, zero, suc, ◌+◌, ◌<◌, ◌≤◌, Bool, true, false, cond, if◌then◌else◌, List, [], ◌∷◌, ◌++◌, ◌==◌, ◌&&◌, length, take, drop, get_or, set, map, Option, sym, ap, ◌∙◌, refl, append_assoc, arith}
 use Rattle.std.specs.Prelude.{filter, fold, option_to_list}
 use Rattle.std.specs.List.{flat_map}
 use Rattle.std.proofs.lemmas.List.{append-nil, take_all}
@@ -16,12 +16,10 @@ use Rattle.tap_world.specs.declared.told.Published.{Published}
 use Rattle.tap_world.specs.declared.told.Said.{Said}
 use Rattle.tap_told.specs.Told.{told_world}
 use Rattle.tap_told.proofs.Declared.{phases_of_setup}
+use Rattle.tap_told.proofs.Lists.{rest_is}
 use Rattle.tap_told.specs.Phases.{answers_told, by_actors, changed_from, in_order, ops_told, untold, with_answer, with_ops}
 
 -- ---- one part changes
-
-eqb_self : (n : ℕ) → (n == n) ≡ true
-eqb_self n = grind arith
 
 eqb_other : (m n : ℕ) → m < n → (n == m) ≡ false
 eqb_other m n lt = grind arith
@@ -164,6 +162,15 @@ each_actor n actor zero xs = refl
 each_actor n actor (suc more) xs =
     ap (λ t. t ++ by_actors (actor + 1) more (said_in n xs)) (one_actor n actor xs)
     ∙ ap (λ t. answers_of n actor xs ++ t) (each_actor n (actor + 1) more xs)
+
+-- one more operation, and those that are left
+pub one_more_op : (s : Setup) (now after whole : List PhasePart) (ops : List Published) (i : ℕ) (x d : Published) (line : Option OpLine)
+    → i < length ops → x ≡ get_or ops i d → line ≡ op_line s (i + 1, x) → after ≡ changed_from 0 x.phase (with_ops (option_to_list line)) now
+    → ops_told s now (with_versions (i + 1) (drop i ops)) ≡ whole → ops_told s after (with_versions (i + 1 + 1) (drop (i + 1) ops)) ≡ whole
+one_more_op s now after whole ops i x d line lt is its told so_far =
+    let left = with_versions (i + 1 + 1) (drop (i + 1) ops) in
+    ap (λ ps. ops_told s ps left) (told ∙ ap (λ l. changed_from 0 x.phase (with_ops (option_to_list l)) now) its)
+    ∙ sym (ap (λ r. ops_told s now (with_versions (i + 1) r)) (rest_is ops i x d lt is)) ∙ so_far
 
 -- ---- all phases
 

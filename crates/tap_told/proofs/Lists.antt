@@ -1,6 +1,6 @@
 -- Loops that go item by item.
-use Rattle.std.proofs.Common.{◌≡◌, ℕ, zero, suc, ◌+◌, ◌<◌, List, [], ◌∷◌, ◌++◌, length, take, drop, get_or, map, Option, Some, None, sym, ap, ◌∙◌, refl, append_assoc, add-zero, add-one, drop-cons, arith}
-use Rattle.std.specs.List.{AllByRecursion, flat_map}
+use Rattle.std.proofs.Common.{◌≡◌, ℕ, suc, ◌+◌, ◌<◌, List, [], ◌∷◌, ◌++◌, length, take, drop, get_or, map, Option, Some, None, sym, ap, ◌∙◌, add-zero, add-one, drop-cons, arith}
+use Rattle.std.specs.List.{flat_map}
 use Rattle.std.proofs.lemmas.List.{take_more, map_push, map-append, append-nil, length-take, length-map}
 use Rattle.std.proofs.lemmas.List.Concat.{flat_map-append}
 use Rattle.tap_world.specs.ByNumber.{numbered}
@@ -20,24 +20,7 @@ pub rest_is : {X : Type 0} (xs : List X) (i : ℕ) (x d : X) → i < length xs �
     → drop i xs ≡ x ∷ drop (i + 1) xs
 rest_is xs i x d lt is = drop-cons xs i d lt ∙ ap (λ y. y ∷ drop (suc i) xs) (sym is) ∙ ap (λ k. x ∷ drop k xs) (sym (add-one i))
 
-pub none_left : {X : Type 0} (xs : List X) → length xs ≡ 0 → xs ≡ []
-none_left [] e = refl
-none_left (x ∷ xs) e = absurd (omega arith)
-
--- what holds of all holds of each
-pub holds_at : {X : Type 0} (P : X → Type 0) (xs : List X) (i : ℕ) (d : X) → i < length xs → AllByRecursion P xs → P (get_or xs i d)
-holds_at P [] i d lt all = absurd (omega arith)
-holds_at P (x ∷ xs) zero d lt all = all.0
-holds_at P (x ∷ xs) (suc i) d lt all = holds_at P xs i d (omega arith) all.1
-
 -- ---- one more item
-
-pub pushed : {X Y : Type 0} (f : X → Y) (before now after : List Y) (xs : List X) (i : ℕ) (x d : X)
-    → i < length xs → x ≡ get_or xs i d → now ≡ before ++ map f (take i xs) → after ≡ now ++ f x ∷ []
-    → after ≡ before ++ map f (take (i + 1) xs)
-pushed f before now after xs i x d lt is so_far new =
-    let items : map f (take (i + 1) xs) ≡ map f (take i xs) ++ f x ∷ [] = ap (map f) (front_is xs i x d lt is) ∙ map_push f (take i xs) x in
-    new ∙ ap (λ t. t ++ f x ∷ []) so_far ∙ append_assoc before (map f (take i xs)) (f x ∷ []) ∙ ap (λ t. before ++ t) (sym items)
 
 pub appended : {X Y : Type 0} (f : X → List Y) (now after : List Y) (xs : List X) (i : ℕ) (x d : X)
     → i < length xs → x ≡ get_or xs i d → now ≡ flat_map f (take i xs) → after ≡ now ++ f x → after ≡ flat_map f (take (i + 1) xs)
@@ -55,11 +38,6 @@ numbered-append n (None ∷ xs) ys =
 numbered-append n (Some x ∷ xs) ys =
     let place : n + 1 + length xs ≡ n + suc (length xs) = omega arith in
     ap (λ t. (n, x) ∷ t) (numbered-append (n + 1) xs ys ∙ ap (λ k. numbered (n + 1) xs ++ numbered k ys) place)
-
--- the first of those that are left
-pub numbered-cons : {A : Type 0} (n : ℕ) (x : Option A) (xs : List (Option A)) → numbered n (x ∷ xs) ≡ numbered n (x ∷ []) ++ numbered (n + 1) xs
-numbered-cons n None xs = refl
-numbered-cons n (Some x) xs = refl
 
 numbered_more : {X A : Type 0} (f : X → Option A) (xs : List X) (i : ℕ) (x d : X) → i < length xs → x ≡ get_or xs i d
     → numbered 0 (map f (take (i + 1) xs)) ≡ numbered 0 (map f (take i xs)) ++ numbered i (f x ∷ [])

@@ -12,9 +12,9 @@ use Rattle.tap_told.specs.Devices.{HasDevice}
 abbrev pub vhosts_of : List (Option Side) → List (Option Vhost)
 vhosts_of sides = map (λ (s : Option Side). option_map (λ (x : Side). x.vhost) s) sides
 
--- Each operation has its device's name, and numbers of files, guests and vhosts have 16 bits. In every world that a run
--- of a laid scenario reaches, operations are those of commands that name declared devices, and files, guests and vhosts
--- are the declared ones, of which there are at most 320, 8 and 64.
+-- Each operation has its device's name, and numbers of files, guests and vhosts have 16 bits. This is so in each world
+-- that a run of a laid scenario reaches: operations are those of commands that name declared devices, and files, guests
+-- and vhosts are the declared ones, of which there are at most 320, 8 and 64.
 pub record CanBeTold
     (s : Scenario) (ops : List Published) (files : List (Option Placed)) (guests : List (Option Guest))
     (vhosts : List (Option Side)) : Type 0 where

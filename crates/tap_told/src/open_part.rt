@@ -1,6 +1,6 @@
 //! The part of a phase while it is filled.
 
-ghost use Rattle.std.specs.Prelude.{◌≡◌, ◌∷◌, [], IfOk, OnOk};
+ghost use Rattle.std.specs.Prelude.{◌≡◌, ◌∷◌, [], IfOk, OnOk, option_to_list};
 ghost use Rattle.tap_told.specs.Phases.{answer_told, by_actors, changed_from, in_order, with_answer, with_ops};
 
 use sqlite_items::Items;
@@ -76,8 +76,8 @@ impl OpenPart {
     }
 }
 
-/// Tells an operation in the part of a phase, where there is such a phase.
-pub(crate) fn tell_op(parts: &mut [OpenPart], phase: u32, line: OpLine) -> Result<(), AllocError>
+// Tells the line of an operation in the part of a phase, where there is such a phase.
+fn tell_line(parts: &mut [OpenPart], phase: u32, line: OpLine) -> Result<(), AllocError>
     ensures { OnOk result (parts.new ≡ changed_from 0 phase (with_ops (line ∷ [])) parts.old) }
 {
     let index = phase as usize;
@@ -85,6 +85,20 @@ pub(crate) fn tell_op(parts: &mut [OpenPart], phase: u32, line: OpLine) -> Resul
         parts[index].push_op(line)?;
     }
     Ok(())
+}
+
+/// Tells an operation, where it has a line, in the part of a phase.
+pub(crate) fn tell_op(
+    parts: &mut [OpenPart],
+    phase: u32,
+    line: Option<OpLine>,
+) -> Result<(), AllocError>
+    ensures { OnOk result (parts.new ≡ changed_from 0 phase (with_ops (option_to_list line)) parts.old) }
+{
+    match line {
+        Some(line) => tell_line(parts, phase, line),
+        None => Ok(()),
+    }
 }
 
 /// Tells an answer in the part of its phase, where there is such a phase.

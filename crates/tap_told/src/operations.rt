@@ -4,7 +4,7 @@ ghost use Rattle.std.specs.Prelude.{◌≡◌, ◌<◌, [], IfOk, OnOk, map, len
 ghost use Rattle.std.specs.List.{AllByRecursion};
 ghost use Rattle.tap_world.specs.Project.{op_line, with_versions, words_of};
 ghost use Rattle.tap_world.specs.Setup.{setup_of};
-ghost use Rattle.tap_told.specs.Phases.{commands_of, op_told, ops_told};
+ghost use Rattle.tap_told.specs.Phases.{commands_of, ops_told};
 ghost use Rattle.tap_told.specs.Devices.{HasDevice};
 
 use crate::commands::command_at;
@@ -78,25 +78,6 @@ fn op_line(
     }
 }
 
-// Tells the operation that made a version in the part of its phase.
-fn tell_one(
-    alloc: Global,
-    parts: &mut [OpenPart],
-    scenario: &Scenario,
-    commands: &[&Command],
-    version: u64,
-    published: &Published,
-) -> Result<(), AllocError>
-    requires commands { map (λ c. c.now) commands.now ≡ commands_of scenario.now.phases }
-    requires device { HasDevice scenario.now.names published.now }
-    ensures { OnOk result (parts.new ≡ op_told (setup_of scenario.now) parts.old (version, published.now)) }
-{
-    match op_line(alloc, scenario, commands, version, published)? {
-        Some(line) => tell_op(parts, published.phase, line),
-        None => Ok(()),
-    }
-}
-
 /// Tells each operation in the part of its phase.
 pub(crate) fn tell_ops(
     alloc: Global,
@@ -110,14 +91,9 @@ pub(crate) fn tell_ops(
     ensures { OnOk result (parts.new ≡ ops_told (setup_of scenario.now) parts.old (with_versions 1 ops.now)) }
 {
     for (index, published) in ops.iter().enumerate() {
-        tell_one(
-            alloc,
-            parts,
-            scenario,
-            commands,
-            index as u64 + 1,
-            published,
-        )?;
+        let version = index as u64 + 1;
+        let line = op_line(alloc, scenario, commands, version, published)?;
+        tell_op(parts, published.phase, line)?;
     }
     Ok(())
 }
