@@ -1,0 +1,19 @@
+-- This project's own: what a command does next, in any world that has what actors share.
+use Rattle.std.specs.Prelude.{◌≡◌, ℕ, List, Option, Bool}
+use Rattle.scen_words.specs.declared.command.Command.{Command}
+use Rattle.tap_world.specs.declared.event.EventKind.{EventKind}
+use Rattle.tap_world.specs.Scripts.{next_kind}
+use Rattle.tap_world.specs.Waiting.{may_go_from}
+use Rattle.tap_world.specs.World.{Actor, Doing, Said}
+use Rattle.core_shared.specs.Worlds.{world_in}
+use Rattle.core_shared.specs.declared.shared.Shared.{Shared}
+
+-- this is the kind of the next event, whoever the actors are and whatever was answered
+abbrev pub IsNextKind : Shared → Doing → Command → Option EventKind → Type 0
+IsNextKind x so_far c kind =
+    (actors : List Actor) (said : List Said) → next_kind (world_in x actors said) so_far c ≡ kind
+
+-- and so it is told whether the actor may go on
+abbrev pub TellsWhoMayGo : Shared → ℕ → Doing → Command → Bool → Type 0
+TellsWhoMayGo x actor so_far c may =
+    (actors : List Actor) (said : List Said) → may_go_from (world_in x actors said) actor c so_far ≡ may
