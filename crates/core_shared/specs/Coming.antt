@@ -7,7 +7,6 @@ use Rattle.tap_guests.specs.Side.{Side}
 use Rattle.tap_ground.specs.Options.{◌>>=◌}
 use Rattle.tap_world.specs.ByNumber.{at}
 use Rattle.tap_world.specs.Effect as world
-use Rattle.tap_world.specs.Effect.Onward as onward
 use Rattle.tap_world.specs.World as come
 use Rattle.tap_world.specs.World.{HostFrame}
 use Rattle.vring_turns.specs.RxTurn.{RxTurn}
@@ -63,19 +62,19 @@ come_of vhosts (doing.Unbacked vhost file) = come.Doing.Unbacked file
 come_of vhosts (doing.Disowned vhost file) = come.Doing.Disowned file
 come_of vhosts (doing.Released vhost file) = come.Doing.Released file
 come_of vhosts (doing.Receives vhost file) = at_rx vhosts vhost (come.Doing.Receives file)
-come_of vhosts (doing.Transmits vhost file chains) = at_tx vhosts vhost (λ t. come.Doing.Transmits file t chains)
+come_of vhosts (doing.Transmits vhost file chains) = at_tx vhosts vhost (λ t. come.Doing.Transmits file t chains.items)
 come_of vhosts (doing.Given vhost file chains frame) =
-    at_tx vhosts vhost (λ t. come.Doing.Given file t chains (host_frame frame))
+    at_tx vhosts vhost (λ t. come.Doing.Given file t chains.items (host_frame frame))
 come_of vhosts (doing.Teaches vhost file chains frame) =
-    at_tx vhosts vhost (λ t. come.Doing.Teaches file t chains (host_frame frame))
+    at_tx vhosts vhost (λ t. come.Doing.Teaches file t chains.items (host_frame frame))
 
 -- how a command goes on
 abbrev pub onward_of : List (Option Side) → Onward → world.Onward
-onward_of vhosts (on.Goes seen d found) = onward.Goes seen (come_of vhosts d) found
-onward_of vhosts (on.Ends seen answer) = onward.Ends seen answer
+onward_of vhosts (on.Goes seen d found) = world.Onward.Goes seen (come_of vhosts d) found
+onward_of vhosts (on.Ends seen answer) = world.Onward.Ends seen answer
 
 -- a command that stays as it was goes on as far as it had come, having seen what it had seen
 abbrev pub written_out : ℕ → come.Doing → world.Onward → world.Onward
-written_out seen so_far (onward.Goes now d found) = onward.Goes now d found
-written_out seen so_far (onward.Ends now answer) = onward.Ends now answer
-written_out seen so_far (onward.Stays found) = onward.Goes seen so_far found
+written_out seen so_far (world.Onward.Goes now d found) = world.Onward.Goes now d found
+written_out seen so_far (world.Onward.Ends now answer) = world.Onward.Ends now answer
+written_out seen so_far (world.Onward.Stays found) = world.Onward.Goes seen so_far found

@@ -10,7 +10,8 @@ use Rattle.tap_world.specs.Scripts.{next_kind}
 use Rattle.tap_world.specs.Setup.{Numbered}
 use Rattle.tap_world.specs.Step.{row}
 use Rattle.tap_world.specs.World as world
-use Rattle.tap_world.specs.World.{Actor, Said}
+use Rattle.tap_world.specs.World.{Actor}
+use Rattle.tap_world.specs.declared.told.Said.{Said}
 use Rattle.core_shared.specs.Asking.{Asking, setup}
 use Rattle.core_shared.specs.Coming.{come_of, onward_of, rx_turn_in, tx_turn_in, written_out}
 use Rattle.core_shared.specs.Held.{IsHeld}

@@ -10,7 +10,8 @@ use Rattle.tap_world.specs.Sound.{IsSound}
 use Rattle.tap_world.specs.Steady.{IsSteady}
 use Rattle.tap_world.specs.Step.{row}
 use Rattle.tap_world.specs.World as world
-use Rattle.tap_world.specs.World.{Actor, Said, World}
+use Rattle.tap_world.specs.World.{Actor, World}
+use Rattle.tap_world.specs.declared.told.Said.{Said}
 use Rattle.scen_laid.specs.Laid.{IsLaid}
 use Rattle.core_shared.specs.Asking.{Asking, IsAsked, setup}
 use Rattle.core_shared.specs.Coming.{come_of}
@@ -27,14 +28,14 @@ actor_at a so_far rest =
 
 -- The next event of the command is of this kind, and its row has an effect, which the world bears.
 pub record HasEvent (w : World) (a : Asking) (so_far : world.Doing) (rest : List Numbered) (kind : EventKind) : Type 0
-    where
-  pub is_next : next_kind w so_far a.command ≡ Some kind
-  pub effect : Effect
-  pub is_row : row (setup a) w kind a.actor (actor_at a so_far rest) a.number a.command ≡ Some effect
-  pub files : List (Option File)
-  pub is_files : files_after effect.files w.files ≡ Some files
-  pub guests : List (Option Guest)
-  pub is_guests : guests_after a.actor a.number effect.guests w.guests ≡ Some guests
+  where
+    pub is_next : next_kind w so_far a.command ≡ Some kind
+    pub effect : Effect
+    pub is_row : row (setup a) w kind a.actor (actor_at a so_far rest) a.number a.command ≡ Some effect
+    pub files : List (Option File)
+    pub is_files : files_after effect.files w.files ≡ Some files
+    pub guests : List (Option Guest)
+    pub is_guests : guests_after a.actor a.number effect.guests w.guests ≡ Some guests
 
 -- The scenario is laid. The command is one of the phase that is under way. With these actors and answers the world is
 -- sound and steady, the actor is one of them and has come so far with its command, whose next event is of this kind and

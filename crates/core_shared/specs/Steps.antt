@@ -6,7 +6,8 @@ use Rattle.tap_world.specs.Effect.{actor_after, ending, heard_by, said_after, se
 use Rattle.tap_world.specs.ByNumber.{with_nth}
 use Rattle.tap_world.specs.Setup.{Numbered}
 use Rattle.tap_world.specs.Step.{is_allowed, step}
-use Rattle.tap_world.specs.World.{Actor, Said, World}
+use Rattle.tap_world.specs.World.{Actor, World}
+use Rattle.tap_world.specs.declared.told.Said.{Said}
 use Rattle.core_shared.specs.Asking.{Asking, setup}
 use Rattle.core_shared.specs.Coming.{come_of, onward_of}
 use Rattle.core_shared.specs.Did.{Did}
@@ -36,5 +37,7 @@ EventsMakeSteps =
     → (slice_get actors a.actor ≡ Some (actor_at a (come_of old.vhosts d) rest))
     → (is_allowed (setup a) (world_in old actors said) (event_of a kind) ≡ true)
     → step (setup a) (world_in old actors said) (event_of a kind)
-    ≡ Some (settled (world_on a d old new on rest actors said) (ending (world_on a d old new on rest actors said)),
-    heard_by a.actor (onward_of new.vhosts on) (ending (world_on a d old new on rest actors said)))
+    ≡ Some (
+      settled (world_on a d old new on rest actors said) (ending (world_on a d old new on rest actors said)),
+      heard_by a.actor (onward_of new.vhosts on) (ending (world_on a d old new on rest actors said)),
+    )

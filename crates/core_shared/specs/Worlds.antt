@@ -3,7 +3,8 @@ use Rattle.std.specs.Prelude.{List, Option, map, option_map}
 use Rattle.tap_guests.specs.Side.{Side}
 use Rattle.tap_lines.specs.Files.{files_of}
 use Rattle.tap_world.specs.Guests.{Vhost}
-use Rattle.tap_world.specs.World.{Actor, Said, World}
+use Rattle.tap_world.specs.World.{Actor, World}
+use Rattle.tap_world.specs.declared.told.Said.{Said}
 use Rattle.core_shared.specs.declared.shared.Shared.{Shared}
 
 -- vhosts without their workers

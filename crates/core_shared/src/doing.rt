@@ -18,19 +18,39 @@ pub enum Doing {
     /// No event yet.
     Begun,
     /// It changes the table alone, and is to publish its operation.
-    Changes { op: Op },
+    Changes {
+        op: Op,
+    },
     /// An attach, to open the file's gate.
-    Opens { file: u16, op: Op },
+    Opens {
+        file: u16,
+        op: Op,
+    },
     /// An attach whose gate is open, to publish.
-    Opened { file: u16, op: Op },
+    Opened {
+        file: u16,
+        op: Op,
+    },
     /// A detach, to publish.
-    Withdraws { file: u16, op: Op },
+    Withdraws {
+        file: u16,
+        op: Op,
+    },
     /// A detach that published this version, to shut the gate.
-    Withdrawn { file: u16, version: u64 },
+    Withdrawn {
+        file: u16,
+        version: u64,
+    },
     /// A detach that published this version, to empty batch and ring.
-    Purges { file: u16, version: u64 },
+    Purges {
+        file: u16,
+        version: u64,
+    },
     /// A resize, to change the capacity to this one.
-    Resizes { file: u16, capacity: u16 },
+    Resizes {
+        file: u16,
+        capacity: u16,
+    },
     /// A resize, to cut what is over the capacity, and to publish.
     Shrinks {
         file: u16,
@@ -41,7 +61,11 @@ pub enum Doing {
         cuts: u64,
     },
     /// A send with a row: its file, the epoch of that file's gate, and the frame as it is kept.
-    Routed { file: u16, epoch: u16, frame: Frame },
+    Routed {
+        file: u16,
+        epoch: u16,
+        frame: Frame,
+    },
     /// A send with a place.
     Placed {
         file: u16,
@@ -50,7 +74,11 @@ pub enum Doing {
         frame: Frame,
     },
     /// A read: its room in bytes, and what stands in front of frames.
-    Reads { file: u16, room: u32, shape: Shape },
+    Reads {
+        file: u16,
+        room: u32,
+        shape: Shape,
+    },
     /// A write of this frame, and whether its flow is learnt.
     Hosts {
         file: u16,
@@ -58,7 +86,10 @@ pub enum Doing {
         learns: bool,
     },
     /// The frame is with the host, and its flow is to be learnt.
-    Learns { file: u16, frame: Frame },
+    Learns {
+        file: u16,
+        frame: Frame,
+    },
     /// A backend, to be set or unset in the ring; and the table's refusal.
     Backs {
         vhost: u16,
@@ -67,7 +98,11 @@ pub enum Doing {
         refusal: Option<TapErr>,
     },
     /// A backend that is set in the ring, to publish.
-    Backed { vhost: u16, ring: u16, file: u16 },
+    Backed {
+        vhost: u16,
+        ring: u16,
+        file: u16,
+    },
     /// A receive ring's backend that was published as this version, to make the worker the file's owner.
     Owns {
         vhost: u16,
@@ -75,13 +110,25 @@ pub enum Doing {
         version: u64,
     },
     /// A backend that was taken off a receive ring, to give its file back.
-    Unbacked { vhost: u16, file: u16 },
+    Unbacked {
+        vhost: u16,
+        file: u16,
+    },
     /// It is given back, to publish.
-    Disowned { vhost: u16, file: u16 },
+    Disowned {
+        vhost: u16,
+        file: u16,
+    },
     /// A backend that was taken off a transmit ring, to publish.
-    Released { vhost: u16, file: u16 },
+    Released {
+        vhost: u16,
+        file: u16,
+    },
     /// A receive turn of a vhost on a file; its worker is the vhost's.
-    Receives { vhost: u16, file: u16 },
+    Receives {
+        vhost: u16,
+        file: u16,
+    },
     /// A transmit turn of a vhost on a file, and what became of its chains.
     Transmits {
         vhost: u16,
@@ -126,25 +173,70 @@ impl Doing {
             }
             | Doing::Learns { file: _, frame } => Some(frame),
             Doing::Begun
-            | Doing::Changes { .. }
-            | Doing::Opens { .. }
-            | Doing::Opened { .. }
-            | Doing::Withdraws { .. }
-            | Doing::Withdrawn { .. }
-            | Doing::Purges { .. }
-            | Doing::Resizes { .. }
-            | Doing::Shrinks { .. }
-            | Doing::Reads { .. }
-            | Doing::Backs { .. }
-            | Doing::Backed { .. }
-            | Doing::Owns { .. }
-            | Doing::Unbacked { .. }
-            | Doing::Disowned { .. }
-            | Doing::Released { .. }
-            | Doing::Receives { .. }
-            | Doing::Transmits { .. }
-            | Doing::Given { .. }
-            | Doing::Teaches { .. } => None,
+            | Doing::Changes { op: _ }
+            | Doing::Opens { file: _, op: _ }
+            | Doing::Opened { file: _, op: _ }
+            | Doing::Withdraws { file: _, op: _ }
+            | Doing::Withdrawn {
+                file: _,
+                version: _,
+            }
+            | Doing::Purges {
+                file: _,
+                version: _,
+            }
+            | Doing::Resizes {
+                file: _,
+                capacity: _,
+            }
+            | Doing::Shrinks {
+                file: _,
+                capacity: _,
+                claimed: _,
+                cuts: _,
+            }
+            | Doing::Reads {
+                file: _,
+                room: _,
+                shape: _,
+            }
+            | Doing::Backs {
+                vhost: _,
+                ring: _,
+                file: _,
+                refusal: _,
+            }
+            | Doing::Backed {
+                vhost: _,
+                ring: _,
+                file: _,
+            }
+            | Doing::Owns {
+                vhost: _,
+                file: _,
+                version: _,
+            }
+            | Doing::Unbacked { vhost: _, file: _ }
+            | Doing::Disowned { vhost: _, file: _ }
+            | Doing::Released { vhost: _, file: _ }
+            | Doing::Receives { vhost: _, file: _ }
+            | Doing::Transmits {
+                vhost: _,
+                file: _,
+                chains: _,
+            }
+            | Doing::Given {
+                vhost: _,
+                file: _,
+                chains: _,
+                frame: _,
+            }
+            | Doing::Teaches {
+                vhost: _,
+                file: _,
+                chains: _,
+                frame: _,
+            } => None,
         }
     }
 

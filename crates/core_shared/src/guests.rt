@@ -42,7 +42,8 @@ impl Guests {
         ensures ok { OnOk result (self.new ≡ self.old ++ guest ∷ []) }
         ensures err { OnErr result (self.new ≡ self.old) }
     {
-        self.items.push(guest)
+        self.items.push(guest)?;
+        Ok(())
     }
 
     /// The guests, the first one first.
