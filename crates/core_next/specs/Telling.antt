@@ -1,11 +1,15 @@
 -- This project's own: what a command does next, in any world that has what actors share.
-use Rattle.std.specs.Prelude.{◌≡◌, ℕ, List, Option, Bool}
+use Rattle.std.specs.Prelude.{◌≡◌, ℕ, List, Option, Bool, IsSome}
 use Rattle.scen_words.specs.declared.command.Command.{Command}
 use Rattle.tap_world.specs.declared.event.EventKind.{EventKind}
 use Rattle.tap_world.specs.Scripts.{next_kind}
 use Rattle.tap_world.specs.Waiting.{may_go_from}
 use Rattle.tap_world.specs.World.{Actor, Doing, Said}
+use Rattle.core_shared.specs.Coming.{rx_turn_in, tx_turn_in}
 use Rattle.core_shared.specs.Worlds.{world_in}
+use Rattle.core_shared.specs.declared.doing.Doing as code
+use Rattle.core_shared.specs.declared.doing.Doing.TheVariants as doing
+use Rattle.tap_guests.specs.Side.{Side}
 use Rattle.core_shared.specs.declared.shared.Shared.{Shared}
 
 -- this is the kind of the next event, whoever the actors are and whatever was answered
@@ -17,3 +21,11 @@ IsNextKind x so_far c kind =
 abbrev pub TellsWhoMayGo : Shared → ℕ → Doing → Command → Bool → Type 0
 TellsWhoMayGo x actor so_far c may =
     (actors : List Actor) (said : List Said) → may_go_from (world_in x actors said) actor c so_far ≡ may
+
+-- a turn under way has its worker
+abbrev pub HasWorker : List (Option Side) → code.Doing → Type 0
+HasWorker vhosts (doing.Receives vhost file) = IsSome (rx_turn_in vhosts vhost)
+HasWorker vhosts (doing.Transmits vhost file chains) = IsSome (tx_turn_in vhosts vhost)
+HasWorker vhosts (doing.Given vhost file chains frame) = IsSome (tx_turn_in vhosts vhost)
+HasWorker vhosts (doing.Teaches vhost file chains frame) = IsSome (tx_turn_in vhosts vhost)
+HasWorker vhosts other = Unit {0}

@@ -1,6 +1,6 @@
 //! The kind of a command's next event.
 
-ghost use Rattle.core_next.specs.Telling.{IsNextKind};
+ghost use Rattle.core_next.specs.Telling.{HasWorker, IsNextKind};
 ghost use Rattle.core_shared.specs.Coming.{come_of};
 
 use crate::files::{purge_next, read_next, send_next, shrink_next};
@@ -13,6 +13,7 @@ use tap_world::EventKind;
 /// The kind of the next event of a command that has come so far; none where its turn is over, or where its file isn't
 /// there.
 pub fn next_kind(shared: &Shared, doing: &Doing, command: &Command) -> Option<EventKind>
+    requires { HasWorker shared.now.vhosts doing.now }
     ensures { IsNextKind shared.now (come_of shared.now.vhosts doing.now) command.now result }
 {
     match doing {
@@ -28,8 +29,8 @@ pub fn next_kind(shared: &Shared, doing: &Doing, command: &Command) -> Option<Ev
         Doing::Hosts { .. } => Some(EventKind::HostIn),
         Doing::Backs { .. } => Some(EventKind::Drive),
         Doing::Owns { .. } | Doing::Unbacked { .. } => Some(EventKind::Owner),
-        Doing::Receives { vhost, file } => rx_next(shared, *vhost, *file, command),
-        Doing::Transmits { vhost, .. } => tx_next(shared, *vhost, command),
+        Doing::Receives { vhost, file } => rx_next(shared, *vhost, *file),
+        Doing::Transmits { vhost, .. } => tx_next(shared, *vhost),
         Doing::Given { .. } => Some(EventKind::Look),
         Doing::Changes { .. }
         | Doing::Opened { .. }

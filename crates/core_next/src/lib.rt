@@ -5,8 +5,10 @@
 //! who waits. Each look takes a fixed number of steps.
 #![tactic(auto)]
 
+mod files;
 mod first;
 mod kinds;
+mod turns;
 mod waits;
 
 pub use kinds::next_kind;

@@ -1,43 +1,23 @@
 //! Whether an actor may go on.
 
-ghost use Rattle.core_next.specs.Telling.{TellsWhoMayGo};
+ghost use Rattle.core_next.specs.Telling.{HasWorker, TellsWhoMayGo};
 ghost use Rattle.core_shared.specs.Coming.{come_of};
 
 use crate::files::file_in;
 use core_shared::{Doing, Shared};
 use scen_words::Command;
-use tap_guests::VhostSide;
-use tap_lines::FileSide;
 
 /// Whether an actor may go on with a command that has come so far: its next event, if it has one, is allowed.
 pub fn may_go(shared: &Shared, actor: u16, doing: &Doing, command: &Command) -> bool
+    requires { HasWorker shared.now.vhosts doing.now }
     ensures { TellsWhoMayGo shared.now actor (come_of shared.now.vhosts doing.now) command.now result }
 {
     match doing {
         Doing::Begun => may_begin(shared, actor, command),
-        Doing::Learns { .. } => shared.writer.is_none(),
-        Doing::Teaches { vhost, .. } => {
-            if has_tx(shared, *vhost) {
-                shared.writer.is_none()
-            } else {
-                may_begin(shared, actor, command)
-            }
-        }
+        Doing::Learns { .. } | Doing::Teaches { .. } => shared.writer.is_none(),
         Doing::Backs { .. } => may_drive(shared, actor, command),
-        Doing::Purges { file, .. } => match file_in(shared, *file) {
-            Some(side) => may_purge(side),
-            None => false,
-        },
-        Doing::Shrinks { file, .. } => match file_in(shared, *file) {
-            Some(side) => !side.is_over() || !side.has_claim(),
-            None => false,
-        },
-        Doing::Receives { vhost, .. } => {
-            has_rx(shared, *vhost) || may_begin(shared, actor, command)
-        }
-        Doing::Transmits { vhost, .. } | Doing::Given { vhost, .. } => {
-            has_tx(shared, *vhost) || may_begin(shared, actor, command)
-        }
+        Doing::Purges { file, .. } => may_purge(shared, *file),
+        Doing::Shrinks { file, .. } => may_shrink(shared, *file),
         Doing::Changes { .. }
         | Doing::Opens { .. }
         | Doing::Opened { .. }
@@ -52,6 +32,93 @@ pub fn may_go(shared: &Shared, actor: u16, doing: &Doing, command: &Command) -> 
         | Doing::Owns { .. }
         | Doing::Unbacked { .. }
         | Doing::Disowned { .. }
-        | Doing::Released { .. } => true,
+        | Doing::Released { .. }
+        | Doing::Receives { .. }
+        | Doing::Transmits { .. }
+        | Doing::Given { .. } => true,
+    }
+}
+
+// A purge waits for a frame that is in hand, and for the place in front of the ring to be put.
+fn may_purge(shared: &Shared, file: u16) -> bool {
+    let Some(side) = file_in(shared, file) else {
+        return false;
+    };
+    if side.has_batch() {
+        side.hand().is_none()
+    } else {
+        side.ready_front().is_some()
+    }
+}
+
+// A resize waits, while more wait than the ring has places, for each claimed place to be put.
+fn may_shrink(shared: &Shared, file: u16) -> bool {
+    match file_in(shared, file) {
+        Some(side) => !side.is_over() || !side.has_claim(),
+        None => false,
+    }
+}
+
+// The call of a backend that the table refused waits for its ring's turn; one that it didn't refuse holds that turn.
+fn may_drive(shared: &Shared, actor: u16, command: &Command) -> bool {
+    match command {
+        Command::Backend { vhost, ring, .. } => is_free_for(shared, actor, *vhost, *ring),
+        _ => false,
+    }
+}
+
+// A ring's turn is free, or held by this actor; a ring that there isn't has none.
+fn is_free_for(shared: &Shared, actor: u16, vhost: u16, ring: u16) -> bool {
+    let Some(side) = shared.vhosts.get(vhost) else {
+        return false;
+    };
+    match side.turn(ring) {
+        Some(holder) => ring >= 2 || holder == u32::from(actor),
+        None => true,
+    }
+}
+
+// A ring's turn is free.
+fn is_free(shared: &Shared, vhost: u16, ring: u16) -> bool {
+    match shared.vhosts.get(vhost) {
+        Some(side) => side.turn(ring).is_none(),
+        None => false,
+    }
+}
+
+// A command may begin: on the table where nobody holds the writer; a backend where its ring's turn is free, too; a turn
+// where that is free; a control call of a vhost where it meets no turn; any other command always.
+fn may_begin(shared: &Shared, actor: u16, command: &Command) -> bool {
+    match command {
+        Command::SetIff { .. }
+        | Command::SetQueue { .. }
+        | Command::Close { .. }
+        | Command::Persist { .. }
+        | Command::HdrSize { .. }
+        | Command::Steer { .. }
+        | Command::Filter { .. }
+        | Command::Tick { .. }
+        | Command::Resize { .. } => shared.writer.is_none(),
+        Command::Backend { vhost, ring, .. } => {
+            shared.writer.is_none() && (*ring >= 2 || is_free(shared, *vhost, *ring))
+        }
+        Command::RxTurn { vhost } => is_free(shared, *vhost, 0),
+        Command::TxTurn { vhost } => is_free(shared, *vhost, 1),
+        Command::Features { vhost, .. } => {
+            is_free_for(shared, actor, *vhost, 0) && is_free_for(shared, actor, *vhost, 1)
+        }
+        Command::VNum { vhost, ring, .. }
+        | Command::VBase { vhost, ring, .. }
+        | Command::VAddr { vhost, ring, .. }
+        | Command::GetBase { vhost, ring } => is_free_for(shared, actor, *vhost, *ring),
+        Command::DriveAt { .. }
+        | Command::PostIn { .. }
+        | Command::PostOut { .. }
+        | Command::Harvest { .. }
+        | Command::Poke { .. }
+        | Command::Peek { .. }
+        | Command::Send { .. }
+        | Command::Read { .. }
+        | Command::Write { .. } => true,
     }
 }
