@@ -61,10 +61,10 @@ fn may_shrink(shared: &Shared, file: u16) -> bool {
 
 // The call of a backend that the table refused waits for its ring's turn; one that it didn't refuse holds that turn.
 fn may_drive(shared: &Shared, actor: u16, command: &Command) -> bool {
-    match command {
-        Command::Backend { vhost, ring, .. } => is_free_for(shared, actor, *vhost, *ring),
-        _ => false,
-    }
+    let Command::Backend { vhost, ring, .. } = command else {
+        return false;
+    };
+    is_free_for(shared, actor, *vhost, *ring)
 }
 
 // A ring's turn is free, or held by this actor; a ring that there isn't has none.

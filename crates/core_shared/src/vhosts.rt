@@ -2,6 +2,7 @@
 
 ghost use Rattle.std.specs.Prelude.{◌≡◌, ◌++◌, ◌∷◌, [], IsSome, OnErr, OnOk, Some, is_some};
 ghost use Rattle.std.specs.Borrow.{sem};
+ghost use Rattle.std.specs.Option.{option_copied};
 ghost use Rattle.tap_world.specs.ByNumber.{at};
 
 use std::alloc::{AllocError, Global};
@@ -60,6 +61,13 @@ impl Vhosts {
         ensures { result.now ≡ self.now }
     {
         self.sides.as_slice()
+    }
+
+    /// The vhost of a number, if there is one.
+    pub fn get(&self, vhost: u16) -> Option<&VhostSide>
+        ensures { option_copied result ≡ at self.now vhost }
+    {
+        self.sides.get(usize::from(vhost))?.as_ref()
     }
 
     /// The vhost of a number.
