@@ -1,6 +1,6 @@
 -- This project's own: how far a command has come, in the words of the world. A turn under way is that of its ring's
 -- worker.
-use Rattle.std.specs.Prelude.{ℕ, List, Option, Some, None, option_map}
+use Rattle.std.specs.Prelude.{ℕ, List, Option, option_map}
 use Rattle.std.specs.Option.{option_map_or}
 use Rattle.tap_guests.specs.Backs.{front_of}
 use Rattle.tap_guests.specs.Side.{Side}

@@ -1,5 +1,5 @@
 -- This project's own: when an actor's next event may be done.
-use Rattle.std.specs.Prelude.{◌≡◌, ℕ, ◌∷◌, List, Option, Some, slice_get}
+use Rattle.std.specs.Prelude.{◌≡◌, ◌∷◌, List, Option, Some, slice_get}
 use Rattle.tap_world.specs.declared.event.EventKind.{EventKind}
 use Rattle.tap_world.specs.Effect.{Effect, files_after, guests_after}
 use Rattle.tap_world.specs.Guests.{Guest}

@@ -1,6 +1,5 @@
 -- This project's own: that what a command carries, as far as it has come, is that command's.
 use Rattle.std.specs.Prelude.{◌≡◌, ℕ, List, Option, Some, None, IsSome}
-use Rattle.scen_words.specs.declared.command.Command.{Command}
 use Rattle.scen_words.specs.declared.command.Command.TheVariants as command
 use Rattle.tap_frame.specs.Frame.{FrameValue}
 use Rattle.tap_guests.specs.Side.{Side}
@@ -38,8 +37,17 @@ IsAtRx vhosts a vhost = (a.command ≡ command.RxTurn vhost) × IsSome (rx_turn_
 abbrev pub IsAtTx : List (Option Side) → Asking → ℕ → Type 0
 IsAtTx vhosts a vhost = (a.command ≡ command.TxTurn vhost) × IsSome (tx_turn_in vhosts vhost)
 
+-- no worker serves a ring of a vhost
+pub record HasNoWorker (vhosts : List (Option Side)) (vhost ring : ℕ) : Type 0 where
+  pub rx : ring ≡ 0 → rx_turn_in vhosts vhost ≡ None
+  pub tx : ring ≡ 1 → tx_turn_in vhosts vhost ≡ None
+
+-- a backend's command, and none serves the ring whose turn it holds
+abbrev pub IsAtRing : List (Option Side) → Asking → ℕ → ℕ → Option ℕ → Type 0
+IsAtRing vhosts a vhost ring file = (a.command ≡ command.Backend vhost ring file) × HasNoWorker vhosts vhost ring
+
 -- What a command carries is its own: its operation, its vhost and ring, and the frame that it sends. A turn under way
--- has a worker.
+-- has a worker; while a backend holds its ring's turn, there is none.
 abbrev pub Suits : List (Option Side) → Asking → Doing → Type 0
 Suits vhosts a doing.Begun = Unit {0}
 Suits vhosts a (doing.Changes op) = IsItsOp a op
@@ -55,12 +63,13 @@ Suits vhosts a (doing.Placed file place epoch frame) = IsItsFrame a frame
 Suits vhosts a (doing.Reads file room shape) = Unit {0}
 Suits vhosts a (doing.Hosts file frame learns) = IsNamedSo a frame
 Suits vhosts a (doing.Learns file frame) = IsNamedSo a frame
-Suits vhosts a (doing.Backs vhost ring file refusal) = a.command ≡ command.Backend vhost ring file
-Suits vhosts a (doing.Backed vhost ring file) = a.command ≡ command.Backend vhost ring (Some file)
-Suits vhosts a (doing.Owns vhost file version) = a.command ≡ command.Backend vhost 0 (Some file)
-Suits vhosts a (doing.Unbacked vhost file) = a.command ≡ command.Backend vhost 0 None
-Suits vhosts a (doing.Disowned vhost file) = a.command ≡ command.Backend vhost 0 None
-Suits vhosts a (doing.Released vhost file) = a.command ≡ command.Backend vhost 1 None
+Suits vhosts a (doing.Backs vhost ring file refusal) =
+    (a.command ≡ command.Backend vhost ring file) × (refusal ≡ None → HasNoWorker vhosts vhost ring)
+Suits vhosts a (doing.Backed vhost ring file) = IsAtRing vhosts a vhost ring (Some file)
+Suits vhosts a (doing.Owns vhost file version) = IsAtRing vhosts a vhost 0 (Some file)
+Suits vhosts a (doing.Unbacked vhost file) = IsAtRing vhosts a vhost 0 None
+Suits vhosts a (doing.Disowned vhost file) = IsAtRing vhosts a vhost 0 None
+Suits vhosts a (doing.Released vhost file) = IsAtRing vhosts a vhost 1 None
 Suits vhosts a (doing.Receives vhost file) = IsAtRx vhosts a vhost
 Suits vhosts a (doing.Transmits vhost file chains) = IsAtTx vhosts a vhost
 Suits vhosts a (doing.Given vhost file chains frame) = IsAtTx vhosts a vhost

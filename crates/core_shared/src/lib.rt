@@ -16,6 +16,8 @@ mod guests;
 mod laws;
 mod onward;
 mod shared;
+#[cfg(test)]
+mod tests;
 mod vhosts;
 
 pub use asked::Asked;
