@@ -1,20 +1,17 @@
 //! What is next on a file.
 
+ghost use Rattle.std.specs.Prelude.{◌≡◌, []};
+ghost use Rattle.core_shared.specs.Worlds.{world_in};
+ghost use Rattle.tap_world.specs.Scripts as world;
+
+use crate::looks::file_in;
 use core_shared::Shared;
-use tap_lines::FileSide;
 use tap_world::EventKind;
 
-// The file of a number, if there is one.
-pub(crate) fn file_in(shared: &Shared, file: u16) -> Option<&FileSide> {
-    if shared.files.has(file) {
-        Some(shared.files.side(file))
-    } else {
-        None
-    }
-}
-
 // A purge: the batch's front goes out, and then the ring's front moves.
-pub(crate) fn purge_next(shared: &Shared, file: u16) -> Option<EventKind> {
+pub(crate) fn purge_next(shared: &Shared, file: u16) -> Option<EventKind>
+    ensures { result ≡ world.on (world_in shared.now [] []) file world.purge_next }
+{
     let side = file_in(shared, file)?;
     Some(if side.has_batch() {
         EventKind::Out
@@ -24,7 +21,9 @@ pub(crate) fn purge_next(shared: &Shared, file: u16) -> Option<EventKind> {
 }
 
 // A resize cuts while more wait than the ring has places, and then publishes.
-pub(crate) fn shrink_next(shared: &Shared, file: u16) -> Option<EventKind> {
+pub(crate) fn shrink_next(shared: &Shared, file: u16) -> Option<EventKind>
+    ensures { result ≡ world.on (world_in shared.now [] []) file world.shrink_next }
+{
     let side = file_in(shared, file)?;
     Some(if side.is_over() {
         EventKind::Cut
@@ -34,7 +33,9 @@ pub(crate) fn shrink_next(shared: &Shared, file: u16) -> Option<EventKind> {
 }
 
 // A send with a row: the first of Gone, Spent, Full and Claim whose condition holds.
-pub(crate) fn send_next(shared: &Shared, file: u16, epoch: u16) -> Option<EventKind> {
+pub(crate) fn send_next(shared: &Shared, file: u16, epoch: u16) -> Option<EventKind>
+    ensures { result ≡ world.on (world_in shared.now [] []) file (world.send_next epoch) }
+{
     let side = file_in(shared, file)?;
     Some(if side.is_gone(epoch) {
         EventKind::Gone
@@ -48,7 +49,9 @@ pub(crate) fn send_next(shared: &Shared, file: u16, epoch: u16) -> Option<EventK
 }
 
 // A read meets a worker, takes the batch's front, moves the ring's front, or finds none ready.
-pub(crate) fn read_next(shared: &Shared, file: u16) -> Option<EventKind> {
+pub(crate) fn read_next(shared: &Shared, file: u16) -> Option<EventKind>
+    ensures { result ≡ world.on (world_in shared.now [] []) file world.read_next }
+{
     let side = file_in(shared, file)?;
     Some(if side.owner().is_some() {
         EventKind::Owner
@@ -62,7 +65,9 @@ pub(crate) fn read_next(shared: &Shared, file: u16) -> Option<EventKind> {
 }
 
 // A turn takes a frame in hand where one is ready.
-pub(crate) fn hand_next(shared: &Shared, file: u16) -> Option<EventKind> {
+pub(crate) fn hand_next(shared: &Shared, file: u16) -> Option<EventKind>
+    ensures { result ≡ world.on (world_in shared.now [] []) file world.hand_next }
+{
     let side = file_in(shared, file)?;
     Some(if side.has_batch() || side.ready_front().is_some() {
         EventKind::Hand

@@ -8,6 +8,7 @@
 mod files;
 mod first;
 mod kinds;
+mod looks;
 mod turns;
 mod waits;
 
