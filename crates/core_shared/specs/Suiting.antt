@@ -1,5 +1,5 @@
 -- This project's own: that what a command carries, as far as it has come, is that command's.
-use Rattle.std.specs.Prelude.{◌≡◌, ℕ, List, Option, Some, None, IsSome}
+use Rattle.std.specs.Prelude.{◌≡◌, ℕ, List, length, Option, Some, None, IsSome}
 use Rattle.scen_words.specs.declared.command.Command.TheVariants as command
 use Rattle.tap_frame.specs.Frame.{FrameValue}
 use Rattle.tap_guests.specs.Side.{Side}
@@ -26,9 +26,10 @@ pub record IsItsFrame (a : Asking) (frame : FrameValue) : Type 0 where
   pub sent : IsSent (setup a) frame
   pub name : frame.name ≡ name_of a.actor a.number
 
--- the frame that it writes is under its name
-abbrev pub IsNamedSo : Asking → FrameValue → Type 0
-IsNamedSo a frame = frame.name ≡ name_of a.actor a.number
+-- the frame that it writes, with all its bytes
+pub record IsItsWritten (a : Asking) (frame : FrameValue) : Type 0 where
+  pub name : frame.name ≡ name_of a.actor a.number
+  pub whole : frame.mark ≡ length frame.made
 
 -- a receive turn of a vhost, whose worker is there; and a transmit turn
 abbrev pub IsAtRx : List (Option Side) → Asking → ℕ → Type 0
@@ -61,8 +62,8 @@ Suits vhosts a (doing.Shrinks file capacity places cuts) = a.command ≡ command
 Suits vhosts a (doing.Routed file epoch frame) = IsItsFrame a frame
 Suits vhosts a (doing.Placed file place epoch frame) = IsItsFrame a frame
 Suits vhosts a (doing.Reads file room shape) = Unit {0}
-Suits vhosts a (doing.Hosts file frame learns) = IsNamedSo a frame
-Suits vhosts a (doing.Learns file frame) = IsNamedSo a frame
+Suits vhosts a (doing.Hosts file frame learns) = IsItsWritten a frame
+Suits vhosts a (doing.Learns file frame) = IsItsWritten a frame
 Suits vhosts a (doing.Backs vhost ring file refusal) =
     (a.command ≡ command.Backend vhost ring file) × (refusal ≡ None → HasNoWorker vhosts vhost ring)
 Suits vhosts a (doing.Backed vhost ring file) = IsAtRing vhosts a vhost ring (Some file)
