@@ -1,0 +1,6 @@
+use Rattle.std.proofs.Common.{refl}
+use Rattle.core_receive.proofs.scratch.lemmas.Goals as goal
+use Rattle.core_receive.proofs.Made as made
+
+pub returns : goal.returns
+returns c = refl
