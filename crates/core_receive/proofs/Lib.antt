@@ -1,2 +1,5 @@
 mod Lists
+mod Changing
 mod Made
+mod Rows
+mod Known

@@ -38,7 +38,8 @@ file_change vhost file (went.Out fate) = OnFile file (Leaves (Some vhost) fate)
 abbrev pub MayGoSo : ℕ → Went → Placed → Type 0
 MayGoSo vhost went.Nowhere p = Unit {0}
 MayGoSo vhost (went.Back frame) p =
-    MayChange (PutsBack vhost) p.file × IsFrameAt (first_that in_batch p.file.line) p.file.line frame
+    MayChange (PutsBack vhost) p.file × (index : ℕ) × (first_that in_batch p.file.line ≡ Some index)
+    × IsFrameAt (Some index) p.file.line frame
 MayGoSo vhost (went.Out fate) p = MayChange (Leaves (Some vhost) fate) p.file
 
 -- each frame of the files is the one that was sent under its name

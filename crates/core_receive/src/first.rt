@@ -6,7 +6,6 @@ ghost use Rattle.core_shared.specs.MayDo.{MayDo, MayGo};
 ghost use Rattle.core_shared.specs.declared.doing.Doing.TheVariants as doing;
 ghost use Rattle.scen_words.specs.declared.command.Command.TheVariants as command;
 ghost use Rattle.tap_guests.specs.Side.{Side};
-ghost use Rattle.tap_ground.specs.Options.{◌>>=◌};
 ghost use Rattle.tap_world.specs.ByNumber.{at};
 ghost use Rattle.tap_world.specs.StepTurns.{is_off};
 ghost use Rattle.tap_world.specs.declared.event.EventKind.TheVariants as event;
