@@ -1,5 +1,7 @@
 mod Lists
 mod Changing
+mod Fronting
 mod Made
 mod Rows
 mod Known
+mod Stepped
