@@ -24,6 +24,8 @@ use Rattle.core_shared.specs.MayDo.{MayDo, actor_at}
 use Rattle.core_shared.specs.Worlds.{world_in}
 use Rattle.core_shared.specs.declared.doing.Doing.TheVariants as doing
 use Rattle.core_shared.specs.declared.shared.Shared.{Shared}
+use Rattle.vring_turns.specs.Stage.{is_asking}
+use Rattle.core_receive.specs.Ready.{CanStep}
 use Rattle.core_receive.proofs.Lists.{vhosts_at}
 
 -- the vhost with its worker, whose turn is this actor's, and the guest
@@ -117,3 +119,13 @@ known a vhost file kind x m = record {
       so_far
       ∙ ap (λ (c : Command). is_about vhost 0 (Some (record { number = a.number; command = c }))) m.suits.0
       ∙ about_itself vhost
+
+-- a turn of which it is told that it asks for a frame or doesn't
+pub asks_as : (a : Asking) (vhost file : ℕ) (kind : EventKind) (x : Shared) (m : MayDo a (doing.Receives vhost file) kind x)
+    (k : Known a vhost file kind x m) (asking : Bool) → CanStep a.actor vhost asking x
+    → is_asking k.worker.turn.stage ≡ asking
+asks_as a vhost file kind x m k asking c =
+    let turn : rx_turn_in x.vhosts vhost ≡ Some c.worker.turn =
+    ap (λ (o : Option Side). o >>= (λ v. option_map (λ q. q.turn) v.rx)) c.is_side
+    ∙ ap (λ (o : Option Worker). option_map (λ q. q.turn) o) c.is_worker in
+    ap (λ (t : RxTurn). is_asking t.stage) (some_same k.worker.turn c.worker.turn (sym k.turn ∙ turn)) ∙ c.stage

@@ -1,6 +1,6 @@
 -- Vhosts, guests and files by number, of which one changes.
-use Rattle.std.proofs.Common.{◌≡◌, ◌⊎◌, ℕ, zero, suc, List, [], ◌∷◌, Option, Some, None, inl, inr, ⊎_elim, refl, sym, ap, ◌∙◌, subst, true≢false}
-use Rattle.std.specs.Prelude.{IfSome, IsSome, is_some, map, option_map}
+use Rattle.std.proofs.Common.{◌≡◌, ◌⊎◌, ℕ, zero, suc, List, [], ◌∷◌, Option, Some, None, Result, Ok, Err, inl, inr, ⊎_elim, refl, sym, ap, ◌∙◌, subst, true≢false}
+use Rattle.std.specs.Prelude.{IfOk, IfSome, IsSome, is_some, map, option_map}
 use Rattle.guest_mem.specs.declared.region.Region.{Region}
 use Rattle.tap_guests.specs.Side.{Side}
 use Rattle.tap_guests.specs.Within.{IsIn}
@@ -51,3 +51,9 @@ lies_still (z ∷ xs) zero zero g h s e same lies =
 lies_still (z ∷ xs) zero (suc m) g h s e same lies = lies
 lies_still (z ∷ xs) (suc n) zero g h s e same lies = lies
 lies_still (z ∷ xs) (suc n) (suc m) g h s e same lies = lies_still xs n m g h s e same lies
+
+-- ---- results
+
+pub map_ok : {A E : Type 0} (P Q : A → Type 0) (r : Result A E) → ((x : A) → P x → Q x) → IfOk r P → IfOk r Q
+map_ok P Q (Ok x) f h = f x h
+map_ok P Q (Err e) f h = tt

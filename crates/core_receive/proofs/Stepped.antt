@@ -228,3 +228,12 @@ module _ (a : Asking) (vhost file : ℕ) (kind : EventKind) (x mid : Shared) (ac
           ∙ step_of (world_in x actors said) a.actor a.seen vhost file t v.side.vhost v.guest.memory
           (rx_state v.steps.turn v.left.vhost v.memory, act) f told v.steps.step is_f is_told;
       }
+
+  -- what the code found is what the event tells
+  pub found_is : (f : Option Found) (step : Option Kind) (name : Option Name) (side : Side) → at x.vhosts vhost ≡ Some side
+      → f ≡ found_by step name → step ≡ kind_of vhost 0 act
+      → name ≡ option_map_or (λ (q : Worker). held_name q.turn.held) side.rx None
+      → f ≡ found_by (kind_of vhost 0 act) (held_name t.held)
+  found_is f step name side is e p q =
+      e ∙ ap (λ (o : Option Kind). found_by o name) p
+      ∙ ap (λ (o : Option Name). found_by (kind_of vhost 0 act) o) (q ∙ name_is side is)
