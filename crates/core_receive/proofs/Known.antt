@@ -1,6 +1,6 @@
 -- What is known where an event of a receive turn may be done.
 use Rattle.std.proofs.Common.{◌≡◌, ℕ, lit<, List, [], ◌∷◌, Bool, true, false, Option, Some, None, eq-eqb, refl, sym, ap, ◌∙◌, subst, true≢false}
-use Rattle.std.specs.Prelude.{◌==◌, ◌&&◌, IfSome, IsSome, if◌then◌else◌, is_some, option_map}
+use Rattle.std.specs.Prelude.{◌==◌, ◌&&◌, ◌||◌, IfSome, IsSome, if◌then◌else◌, is_some, option_map}
 use Rattle.std.specs.Option.{option_map_or}
 use Rattle.tap_guests.specs.Side.{Side}
 use Rattle.tap_guests.specs.Within.{IsIn}
@@ -25,6 +25,18 @@ use Rattle.core_shared.specs.Worlds.{world_in}
 use Rattle.core_shared.specs.declared.doing.Doing.TheVariants as doing
 use Rattle.core_shared.specs.declared.shared.Shared.{Shared}
 use Rattle.vring_turns.specs.Stage.{is_asking}
+use Rattle.vring_turns.specs.declared.stage.RxStage.{RxStage}
+use Rattle.vring_turns.specs.declared.stage.RxStage.TheVariants as rx
+use Rattle.tap_lines.specs.Placed.{Placed}
+use Rattle.tap_world.specs.declared.event.EventKind.TheVariants as event
+use Rattle.tap_world.specs.declared.told.Said.{Said}
+use Rattle.tap_world.specs.Line.{has_batch}
+use Rattle.tap_world.specs.LineSteps.{ready_front}
+use Rattle.tap_world.specs.Scripts.{hand_next, next_kind, rx_next_kind}
+use Rattle.tap_world.specs.World.{Actor}
+use Rattle.core_shared.proofs.Kit.{placed_at}
+use Rattle.core_shared.proofs.Knowing.{next_on}
+use Rattle.core_receive.proofs.Rows.{next_any}
 use Rattle.core_receive.specs.Ready.{CanStep}
 use Rattle.core_receive.proofs.Lists.{vhosts_at}
 
@@ -129,3 +141,78 @@ asks_as a vhost file kind x m k asking c =
     ap (λ (o : Option Side). o >>= (λ v. option_map (λ q. q.turn) v.rx)) c.is_side
     ∙ ap (λ (o : Option Worker). option_map (λ q. q.turn) o) c.is_worker in
     ap (λ (t : RxTurn). is_asking t.stage) (some_same k.worker.turn c.worker.turn (sym k.turn ∙ turn)) ∙ c.stage
+
+-- a vhost there is the one that is known, whose turn is this actor's
+pub own_turn : (a : Asking) (vhost file : ℕ) (kind : EventKind) (x : Shared) (m : MayDo a (doing.Receives vhost file) kind x)
+    (k : Known a vhost file kind x m) (side : Side) → at x.vhosts vhost ≡ Some side
+    → (other : ℕ) → side.vhost.rx_turn ≡ Some other → other ≡ a.actor
+own_turn a vhost file kind x m k side is other e =
+    let same : side ≡ k.side = some_same side k.side (sym is ∙ k.is_side) in
+    some_same other a.actor (sym e ∙ ap (λ (y : Side). y.vhost.rx_turn) same ∙ k.holder)
+
+-- which event is next, whoever the actors are
+pub next_all : (a : Asking) (vhost file : ℕ) (kind : EventKind) (x : Shared) (m : MayDo a (doing.Receives vhost file) kind x)
+    (k : Known a vhost file kind x m) (actors : List Actor) (said : List Said)
+    → next_kind (world_in x actors said) (come_of x.vhosts (doing.Receives vhost file)) a.command ≡ Some kind
+next_all a vhost file kind x m k actors said =
+    ap (λ (d : come.Doing). next_kind (world_in x actors said) d a.command) k.come
+    ∙ next_any x file actors m.actors said m.said k.worker.turn.stage
+    ∙ sym (ap (λ (d : come.Doing). next_kind (world_in x m.actors m.said) d a.command) k.come) ∙ m.event.is_next
+
+hand_stage : (st : RxStage) → is_asking st ≡ true → st ≡ rx.Hand
+hand_stage rx.Begin h = absurd (true≢false (sym h))
+hand_stage rx.Hand h = refl
+hand_stage rx.Fetch h = absurd (true≢false (sym h))
+hand_stage rx.NoticesOn h = absurd (true≢false (sym h))
+hand_stage rx.FetchAgain h = absurd (true≢false (sym h))
+hand_stage (rx.NoticesOff way) h = absurd (true≢false (sym h))
+hand_stage rx.Copy h = absurd (true≢false (sym h))
+hand_stage rx.Out h = absurd (true≢false (sym h))
+hand_stage (rx.Discard had) h = absurd (true≢false (sym h))
+hand_stage (rx.PutBack end) h = absurd (true≢false (sym h))
+hand_stage (rx.Publish end) h = absurd (true≢false (sym h))
+hand_stage (rx.Ended end) h = absurd (true≢false (sym h))
+
+-- where it asks for a frame, the file tells which
+pub hand_kind : (a : Asking) (vhost file : ℕ) (kind : EventKind) (x : Shared) (m : MayDo a (doing.Receives vhost file) kind x)
+    (k : Known a vhost file kind x m) → is_asking k.worker.turn.stage ≡ true
+    → (p : Placed) → at x.files file ≡ Some p → (test : Bool) → (has_batch p.file || is_some (ready_front p.file.line)) ≡ test
+    → (actors : List Actor) (said : List Said)
+    → next_kind (world_in x actors said) (come_of x.vhosts (doing.Receives vhost file)) a.command
+    ≡ Some (if test then event.Hand else event.NotReady)
+hand_kind a vhost file kind x m k asks p is_p test is actors said =
+    ap (λ (d : come.Doing). next_kind (world_in x actors said) d a.command) k.come
+    ∙ ap (λ (st : RxStage). rx_next_kind (world_in x actors said) file st) (hand_stage k.worker.turn.stage asks)
+    ∙ next_on x actors said file p hand_next is_p
+    ∙ ap (λ (b : Bool). Some (if b then event.Hand else event.NotReady)) is
+
+-- so the turn can make its next step
+pub can_step : (a : Asking) (vhost file : ℕ) (kind : EventKind) (x : Shared) (m : MayDo a (doing.Receives vhost file) kind x)
+    (k : Known a vhost file kind x m) (asking : Bool) → is_asking k.worker.turn.stage ≡ asking
+    → CanStep a.actor vhost asking x
+can_step a vhost file kind x m k asking asks = record {
+  side = k.side;
+  is_side = k.is_side;
+  worker = k.worker;
+  is_worker = k.is_worker;
+  stage = asks;
+  holder = k.holder;
+  guest = k.guest;
+  is_guest = k.is_guest;
+  within = k.within;
+}
+
+-- what the code asks of the vhost is what is known
+pub asked_is : (a : Asking) (vhost file : ℕ) (kind : EventKind) (x : Shared) (m : MayDo a (doing.Receives vhost file) kind x)
+    (k : Known a vhost file kind x m) (side : Side) → at x.vhosts vhost ≡ Some side
+    → is_asking k.worker.turn.stage ≡ option_map_or (λ (w : Worker). is_asking w.turn.stage) side.rx false
+asked_is a vhost file kind x m k side is =
+    let same : k.side ≡ side = some_same k.side side (sym k.is_side ∙ is) in
+    sym (ap (λ (o : Option Worker). option_map_or (λ (w : Worker). is_asking w.turn.stage) o false)
+    (ap (λ (y : Side). y.rx) (sym same) ∙ k.is_worker))
+
+-- the file is there
+pub file_is_there : (a : Asking) (vhost file : ℕ) (kind : EventKind) (x : Shared) (m : MayDo a (doing.Receives vhost file) kind x)
+    (k : Known a vhost file kind x m) → IsSome (at x.files file)
+file_is_there a vhost file kind x m k =
+    let p = placed_at file x.files k.receives.f k.receives.is_file in ap (λ (o : Option Placed). is_some o) p.1

@@ -5,3 +5,4 @@ mod Made
 mod Rows
 mod Known
 mod Stepped
+mod Handed

@@ -1,13 +1,13 @@
 //! The later events of a receive turn.
 
-ghost use Rattle.std.specs.Prelude.{◌≡◌, IfOk, IsSome, Some, false, option_map, true};
+ghost use Rattle.std.specs.Prelude.{◌≡◌, ◌||◌, IfOk, None, false, is_some, true};
 ghost use Rattle.std.specs.Option.{option_map_or};
 ghost use Rattle.core_receive.specs.Ready.{CanStep};
-ghost use Rattle.core_shared.specs.Coming.{rx_turn_in};
 ghost use Rattle.core_shared.specs.Did.{Did, Went};
 ghost use Rattle.core_shared.specs.MayDo.{MayDo, MayGo};
 ghost use Rattle.core_shared.specs.declared.doing.Doing.TheVariants as doing;
-ghost use Rattle.tap_world.specs.ByNumber.{at};
+ghost use Rattle.tap_world.specs.Line.{has_batch};
+ghost use Rattle.tap_world.specs.LineSteps.{ready_front};
 ghost use Rattle.tap_world.specs.StepTurns.{held_name};
 ghost use Rattle.tap_world.specs.declared.event.EventKind.TheVariants as event;
 ghost use Rattle.vring_turns.specs.Stage.{is_asking};
@@ -18,6 +18,7 @@ use core_shared::{Asked, Doing, Onward, Shared};
 use std::alloc::{AllocError, Global};
 use tap_frame::Name;
 use tap_guests::VhostSide;
+use tap_lines::FileSide;
 use tap_world::Found;
 use vhost_step::RxDid;
 use vring_turns::RxStage;
@@ -41,8 +42,7 @@ pub fn receive(
     if !asks(shared.vhosts.side(vhost)) {
         return step(shared, alloc, asked, vhost, file);
     }
-    let side = shared.files.side(file);
-    if side.has_batch() || side.ready_front().is_some() {
+    if has_frame(shared.files.side(file)) {
         take_frame(shared, asked, vhost, file)
     } else {
         find_none(shared, alloc, asked, vhost, file)
@@ -54,6 +54,13 @@ fn asks(side: &VhostSide) -> bool
     ensures { result ≡ option_map_or (λ w. is_asking w.turn.stage) side.now.rx false }
 {
     matches!(side.rx_stage(), Some(RxStage::Hand))
+}
+
+// A frame can be taken in hand: one is in the batch, or the ring's front is ready.
+fn has_frame(side: &FileSide) -> bool
+    ensures { result ≡ (has_batch side.now.file || is_some (ready_front side.now.file.line)) }
+{
+    side.has_batch() || side.ready_front().is_some()
 }
 
 // The name of the frame that the worker has in hand.
