@@ -6,3 +6,4 @@ mod Rows
 mod Known
 mod Stepped
 mod Handed
+mod Begun

@@ -1,13 +1,11 @@
 //! The first event of a receive turn.
 
-ghost use Rattle.std.specs.Prelude.{◌≡◌, IfOk, None, Some, option_map};
+ghost use Rattle.std.specs.Prelude.{◌≡◌, IfOk, Some};
+ghost use Rattle.core_receive.specs.Ready.{CanBegin, off_in};
 ghost use Rattle.core_shared.specs.Did.{Did, Went};
 ghost use Rattle.core_shared.specs.MayDo.{MayDo, MayGo};
 ghost use Rattle.core_shared.specs.declared.doing.Doing.TheVariants as doing;
 ghost use Rattle.scen_words.specs.declared.command.Command.TheVariants as command;
-ghost use Rattle.tap_guests.specs.Side.{Side};
-ghost use Rattle.tap_world.specs.ByNumber.{at};
-ghost use Rattle.tap_world.specs.StepTurns.{is_off};
 ghost use Rattle.tap_world.specs.declared.event.EventKind.TheVariants as event;
 
 use crate::moved::begin_turn;
@@ -48,7 +46,7 @@ fn find_off(
 ) -> Result<Onward, AllocError>
     requires may { MayDo asked.now doing.Begun event.Owner shared.old }
     requires command { asked.now.command ≡ command.RxTurn vhost }
-    requires off { (at shared.old.vhosts vhost >>= (λ (s : Side). is_off vhost 0 s.vhost)) ≡ Some (end, step) }
+    requires off { off_in shared.old.vhosts vhost ≡ Some (end, step) }
     ensures did { IfOk result (λ on. Did asked.now doing.Begun event.Owner shared.old shared.new on) }
 {
     let guest = shared.vhosts.side(vhost).guest();
@@ -76,7 +74,7 @@ fn begin(
 ) -> Result<Onward, AllocError>
     requires may { MayDo asked.now doing.Begun event.Notices shared.old }
     requires command { asked.now.command ≡ command.RxTurn vhost }
-    requires on { (at shared.old.vhosts vhost >>= (λ (s : Side). is_off vhost 0 s.vhost)) ≡ None }
+    requires can { CanBegin vhost shared.old }
     ensures did { IfOk result (λ on. Did asked.now doing.Begun event.Notices shared.old shared.new on) }
 {
     let file = shared.vhosts.side(vhost).dev().backend(true).unwrap();
