@@ -1,8 +1,7 @@
 -- The first event of a receive turn.
-use Rattle.std.proofs.Common.{◌≡◌, ℕ, List, [], ◌∷◌, Bool, true, false, Option, Some, None, refl, sym, ap, ◌∙◌, subst, true≢false}
-use Rattle.std.specs.Prelude.{◌&&◌, IfSome, IsSome, if◌then◌else◌, is_none, is_some, option_map}
+use Rattle.std.proofs.Common.{◌≡◌, ℕ, List, [], Bool, true, false, Option, Some, None, refl, sym, ap, ◌∙◌, subst, true≢false}
+use Rattle.std.specs.Prelude.{◌&&◌, if◌then◌else◌, is_none, is_some}
 use Rattle.std.specs.Option.{option_map_or}
-use Rattle.guest_mem.specs.Memory.{Contents}
 use Rattle.tap_guests.specs.Side.{Side}
 use Rattle.tap_ground.specs.Options.{◌>>=◌, only_if}
 use Rattle.tap_ledger.specs.declared.act.Act.{Act}
@@ -13,7 +12,6 @@ use Rattle.tap_trace.specs.declared.kind.Kind.{Kind}
 use Rattle.tap_trace.specs.declared.turn.TurnText.{TurnText}
 use Rattle.scen_words.specs.declared.command.Command.{Command}
 use Rattle.scen_words.specs.declared.command.Command.TheVariants as command
-use Rattle.tap_world.specs.declared.event.EventKind.{EventKind}
 use Rattle.tap_world.specs.declared.event.EventKind.TheVariants as event
 use Rattle.tap_world.specs.declared.event.Found.{Found}
 use Rattle.tap_world.specs.declared.told.Said.{Said}
@@ -21,9 +19,9 @@ use Rattle.tap_world.specs.ByNumber.{at, with_at}
 use Rattle.tap_world.specs.Effect as world
 use Rattle.tap_world.specs.Effect.{Effect}
 use Rattle.tap_world.specs.Effect.OnFiles.{NoFile}
-use Rattle.tap_world.specs.Guests.{Guest, Vhost, is_free, turn_of}
-use Rattle.tap_world.specs.Scripts.{next_kind, turn_first}
-use Rattle.tap_world.specs.Setup.{Numbered, Setup}
+use Rattle.tap_world.specs.Guests.{Guest, Vhost, is_free}
+use Rattle.tap_world.specs.Scripts.{next_kind}
+use Rattle.tap_world.specs.Setup.{Numbered}
 use Rattle.tap_world.specs.Step.{row}
 use Rattle.tap_world.specs.StepTurns.{found_by, is_off, kind_of, off_told, over_told, rx_begins, rx_effect, rx_over, rx_state, rx_steps_on}
 use Rattle.tap_world.specs.World as come
@@ -49,7 +47,6 @@ use Rattle.core_receive.proofs.Made.{made}
 use Rattle.core_receive.proofs.Rows.{step_of}
 
 module _ (a : Asking) (vhost : ℕ) (x : Shared) (is_command : a.command ≡ command.RxTurn vhost) where
-
   -- which event is first
   pub first_is : (actors : List Actor) (said : List Said) (side : Side) → at x.vhosts vhost ≡ Some side
       → (off : Bool) → is_some (is_off vhost 0 side.vhost) ≡ off
@@ -65,7 +62,6 @@ module _ (a : Asking) (vhost : ℕ) (x : Shared) (is_command : a.command ≡ com
 
   module _ (m : MayDo a doing.Begun event.Owner x) (side : Side) (is_side : at x.vhosts vhost ≡ Some side) (guest : Guest)
       (is_guest : at x.guests side.vhost.guest ≡ Some guest) (told : TurnText × Kind) (off : off_in x.vhosts vhost ≡ Some told) where
-
     is_off_now : is_off vhost 0 side.vhost ≡ Some told
     is_off_now = sym (ap (λ (o : Option Side). o >>= (λ s. is_off vhost 0 s.vhost)) is_side) ∙ off
 
@@ -94,7 +90,7 @@ module _ (a : Asking) (vhost : ℕ) (x : Shared) (is_command : a.command ≡ com
       has = record {
         is_next = λ actors said. first_is actors said side is_side true (ap (λ (o : Option (TurnText × Kind)). is_some o) is_off_now);
         is_row = λ actors said rest. off_row actors said rest
-          ∙ ap (λ (b : Bool). only_if b (off_told (world_in x actors said) a.seen side.vhost guest.memory told)) free;
+            ∙ ap (λ (b : Bool). only_if b (off_told (world_in x actors said) a.seen side.vhost guest.memory told)) free;
       };
       left = on_guest_left side.vhost.guest guest.memory (Some told.1) guest (world.Onward.Ends a.seen (answer.Turn 0 0 told.0 []))
           x.writer a x [] [] is_guest;
@@ -126,7 +122,6 @@ module _ (a : Asking) (vhost : ℕ) (x : Shared) (is_command : a.command ≡ com
   first_of false c h = absurd (true≢false (sym h))
 
   module _ (m : MayDo a doing.Begun event.Notices x) where
-
     -- the ring is free
     free_now : (side : Side) (guest : Guest) → at x.vhosts vhost ≡ Some side → at x.guests side.vhost.guest ≡ Some guest
         → is_free 0 side.vhost ≡ true
@@ -190,19 +185,19 @@ module _ (a : Asking) (vhost : ℕ) (x : Shared) (is_command : a.command ≡ com
             (rx_state v.steps.turn v.left.vhost v.memory, act))
         has told is_told = record {
           is_next = λ actors said.
-            ap (λ (c : Command). next_kind (world_in x actors said) come.Doing.Begun c) is_command
-            ∙ sym (ap (λ (c : Command). next_kind (world_in x m.actors m.said) come.Doing.Begun c) is_command) ∙ m.event.is_next;
+              ap (λ (c : Command). next_kind (world_in x actors said) come.Doing.Begun c) is_command
+              ∙ sym (ap (λ (c : Command). next_kind (world_in x m.actors m.said) come.Doing.Begun c) is_command) ∙ m.event.is_next;
           is_row = λ actors said rest. begins_row actors said rest v.side v.guest v.is_side v.is_guest
-            ∙ some_then v.side.vhost.settings.rx.file (λ n. if is_free 0 v.side.vhost && is_none v.side.vhost.settings.rx.queue.stopped
-            then rx_steps_on (world_in x actors said) a.actor a.seen vhost n
-            (rx_begun v.side.vhost.settings.mrg (hdr_of v.side.vhost.settings)) v.side.vhost v.guest.memory
-            else None) file _ (ap (λ (s : Side). s.vhost.settings.rx.file) (sym same) ∙ is_file)
-            (ap (λ (b : Bool). if b
-            then rx_steps_on (world_in x actors said) a.actor a.seen vhost file
-            (rx_begun v.side.vhost.settings.mrg (hdr_of v.side.vhost.settings)) v.side.vhost v.guest.memory
-            else None) tests
-            ∙ step_of (world_in x actors said) a.actor a.seen vhost file (begun_on v.side) v.side.vhost v.guest.memory
-            (rx_state v.steps.turn v.left.vhost v.memory, act) f told
-            (ap (λ (s : Side). rx_step hand.Off (rx_state (begun_on s) v.side.vhost v.guest.memory)) (sym same) ∙ v.steps.step)
-            is_f is_told);
+              ∙ some_then v.side.vhost.settings.rx.file (λ n. if is_free 0 v.side.vhost && is_none v.side.vhost.settings.rx.queue.stopped
+              then rx_steps_on (world_in x actors said) a.actor a.seen vhost n
+              (rx_begun v.side.vhost.settings.mrg (hdr_of v.side.vhost.settings)) v.side.vhost v.guest.memory
+              else None) file _ (ap (λ (s : Side). s.vhost.settings.rx.file) (sym same) ∙ is_file)
+              (ap (λ (b : Bool). if b
+              then rx_steps_on (world_in x actors said) a.actor a.seen vhost file
+              (rx_begun v.side.vhost.settings.mrg (hdr_of v.side.vhost.settings)) v.side.vhost v.guest.memory
+              else None) tests
+              ∙ step_of (world_in x actors said) a.actor a.seen vhost file (begun_on v.side) v.side.vhost v.guest.memory
+              (rx_state v.steps.turn v.left.vhost v.memory, act) f told
+              (ap (λ (s : Side). rx_step hand.Off (rx_state (begun_on s) v.side.vhost v.guest.memory)) (sym same) ∙ v.steps.step)
+              is_f is_told);
         }

@@ -1,16 +1,15 @@
 -- A file that changes among all of them, and its frames.
 use Rattle.std.proofs.Common.{◌≡◌, ◌⊎◌, ℕ, zero, suc, List, [], ◌∷◌, Option, Some, None, inl, inr, ⊎_elim, refl, sym, ap, ◌∙◌, subst}
-use Rattle.std.specs.Prelude.{IfSome, IsSome, is_some, map, option_map, slice_get, slice_set}
+use Rattle.std.specs.Prelude.{option_map, slice_get, slice_set}
 use Rattle.tap_frame.specs.Frame.{FrameValue}
 use Rattle.tap_ground.specs.Options.{◌>>=◌}
-use Rattle.tap_ledger.specs.declared.fate.Fate.{Fate}
 use Rattle.tap_lines.specs.Files.{files_of}
 use Rattle.tap_lines.specs.Placed.{Placed}
 use Rattle.tap_sound.proofs.Kit.{some_same}
 use Rattle.tap_world.specs.ByNumber.{at, with_at}
 use Rattle.tap_world.specs.Effect.{files_after}
 use Rattle.tap_world.specs.Effect.OnFiles.{OnFile}
-use Rattle.tap_world.specs.Line.{File, first_that, in_batch}
+use Rattle.tap_world.specs.Line.{File}
 use Rattle.tap_world.specs.LineSteps.{Change, changed}
 use Rattle.tap_world.specs.Setup.{Setup}
 use Rattle.core_shared.specs.Suiting.{IsSent}

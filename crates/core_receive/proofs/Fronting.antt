@@ -1,5 +1,5 @@
 -- The front of a batch as a worker has it.
-use Rattle.std.proofs.Common.{◌≡◌, ℕ, zero, suc, ◌≤◌, List, [], ◌∷◌, length, Bool, true, false, Option, Some, None, refl, sym, ap, ◌∙◌, subst, arith}
+use Rattle.std.proofs.Common.{◌≡◌, ℕ, zero, suc, ◌≤◌, List, [], ◌∷◌, length, Option, Some, None, sym, ap, ◌∙◌, subst, arith}
 use Rattle.std.specs.Prelude.{IfSome, min, slice_get, option_map}
 use Rattle.std.specs.List.{AllByRecursion}
 use Rattle.tap_frame.specs.Frame.{FrameValue}
@@ -11,7 +11,7 @@ use Rattle.scen_words.specs.declared.command.Command.{Command}
 use Rattle.tap_world.specs.Frames.{FrameText, frame_in, sent_bytes, sent_front}
 use Rattle.tap_world.specs.declared.line.Entry.{Entry}
 use Rattle.tap_world.specs.Line.{File, first_that, in_batch}
-use Rattle.tap_world.specs.Setup.{Setup, frame_sent, kept_frame, line_of, sent_by}
+use Rattle.tap_world.specs.Setup.{Setup, frame_sent, kept_frame, sent_by}
 use Rattle.tap_world.specs.StepTurns.{frame_at, front_frame}
 use Rattle.tap_world.specs.Steady.{WasSent}
 use Rattle.core_shared.specs.Suiting.{IsSent}

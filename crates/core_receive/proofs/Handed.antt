@@ -1,7 +1,6 @@
 -- The events of a receive turn that asks for a frame: one is taken in hand, or none is ready.
-use Rattle.std.proofs.Common.{◌≡◌, ℕ, zero, suc, ◌+◌, List, [], ◌∷◌, Bool, true, false, Option, Some, None, refl, sym, ap, ◌∙◌, subst, true≢false, arith}
-use Rattle.std.specs.Prelude.{IfSome, IsSome, ◌&&◌, if◌then◌else◌, is_none, is_some, option_map, slice_get}
-use Rattle.guest_mem.specs.Memory.{Contents}
+use Rattle.std.proofs.Common.{◌≡◌, ℕ, suc, ◌+◌, List, [], ◌∷◌, Bool, true, false, Option, Some, None, refl, sym, ap, ◌∙◌, subst, arith}
+use Rattle.std.specs.Prelude.{IsSome, ◌&&◌, if◌then◌else◌, is_none, is_some, option_map, slice_get}
 use Rattle.tap_frame.specs.Frame.{FrameValue}
 use Rattle.tap_guests.specs.Side.{Side}
 use Rattle.tap_ledger.specs.declared.act.Act.TheVariants as act
@@ -13,9 +12,7 @@ use Rattle.tap_sound.proofs.Kit.{some_same, some_then, then_some}
 use Rattle.tap_trace.specs.declared.turn.TurnText.{TurnText}
 use Rattle.scen_words.specs.declared.command.Command.{Command}
 use Rattle.tap_ground.specs.Options.{◌>>=◌}
-use Rattle.tap_world.specs.declared.event.EventKind.{EventKind}
 use Rattle.tap_world.specs.declared.event.EventKind.TheVariants as event
-use Rattle.tap_world.specs.declared.event.Found.{Found}
 use Rattle.tap_world.specs.declared.event.Found.TheVariants as found
 use Rattle.tap_world.specs.declared.line.Entry.{Entry}
 use Rattle.tap_world.specs.declared.line.Standing.{Standing}
@@ -23,28 +20,28 @@ use Rattle.tap_world.specs.declared.told.Said.{Said}
 use Rattle.tap_world.specs.ByNumber.{at, with_at}
 use Rattle.tap_world.specs.Effect.{Effect}
 use Rattle.tap_world.specs.Effect.OnFiles.{NoFile, OnFile}
-use Rattle.tap_world.specs.Guests.{Guest, Vhost}
+use Rattle.tap_world.specs.Guests.{Guest}
 use Rattle.tap_world.specs.Line.{File, first_that, front_place, in_batch}
 use Rattle.tap_world.specs.LineSteps.{changed, ready_front}
 use Rattle.tap_world.specs.LineSteps.Change.{Takes}
-use Rattle.tap_world.specs.Setup.{Numbered, Setup}
+use Rattle.tap_world.specs.Setup.{Numbered}
 use Rattle.tap_world.specs.Step.{row}
 use Rattle.tap_world.specs.StepTurns.{finds_no_frame, front_frame, over_told, rx_effect, rx_event, rx_over, rx_state, takes}
 use Rattle.tap_world.specs.World as come
 use Rattle.tap_world.specs.World.{Actor, World}
 use Rattle.tap_world.specs.World.Doing.{Receives}
 use Rattle.vring_turns.specs.declared.end.TurnEnd.{TurnEnd}
-use Rattle.vring_turns.specs.RxTurn.{RxState, RxTurn, rx_step}
+use Rattle.vring_turns.specs.RxTurn.{RxTurn, rx_step}
 use Rattle.core_shared.proofs.Kit.{file_at, placed_at, vhost_at}
 use Rattle.core_shared.specs.Asking.{Asking, setup}
-use Rattle.core_shared.specs.Coming.{come_of, rx_turn_in}
+use Rattle.core_shared.specs.Coming.{come_of}
 use Rattle.core_shared.specs.Did.{Did, HasEffect}
 use Rattle.core_shared.specs.MayDo.{MayDo, actor_at}
 use Rattle.core_shared.specs.Worlds.{world_in}
 use Rattle.core_shared.specs.declared.doing.Doing.TheVariants as doing
 use Rattle.core_shared.specs.declared.onward.Onward.{Onward}
 use Rattle.core_shared.specs.declared.shared.Shared.{Shared}
-use Rattle.core_receive.specs.Going.{AreSent, turn_goes}
+use Rattle.core_receive.specs.Going.{turn_goes}
 use Rattle.core_receive.specs.Moved.{Moved}
 use Rattle.core_receive.proofs.Changing.{files_changed, sent_gone}
 use Rattle.core_receive.proofs.Fronting.{front_of}
@@ -145,23 +142,23 @@ module _ (a : Asking) (vhost file : ℕ) (x : Shared) where
         has told is_told = record {
           is_next = next_all a vhost file event.Hand x m k;
           is_row = λ actors said rest. hands_row actors said rest v.side v.guest v.is_side v.is_guest
-            ∙ some_then (at (files_of x.files) file) (λ f. changed (Takes vhost) f >>= (λ g. front_frame (setup a) g >>= (λ fr.
-            rx_step (hand.Got fr) (rx_state turn v.side.vhost v.guest.memory) >>= (λ y. rx_event (world_in x actors said) a.actor
-            a.seen vhost file v.side.vhost (OnFile file (Takes vhost)) (Some (found.Moved fr.name)) y)))) old.file _
-            (file_at file x.files old is_old)
-            (some_then (changed (Takes vhost) old.file) (λ g. front_frame (setup a) g >>= (λ fr.
-            rx_step (hand.Got fr) (rx_state turn v.side.vhost v.guest.memory) >>= (λ y. rx_event (world_in x actors said) a.actor
-            a.seen vhost file v.side.vhost (OnFile file (Takes vhost)) (Some (found.Moved fr.name)) y))) new.file _ changes
-            (some_then (front_frame (setup a) new.file) (λ fr.
-            rx_step (hand.Got fr) (rx_state turn v.side.vhost v.guest.memory) >>= (λ y. rx_event (world_in x actors said) a.actor
-            a.seen vhost file v.side.vhost (OnFile file (Takes vhost)) (Some (found.Moved fr.name)) y)) frame _ front
-            (some_then (rx_step (hand.Got frame) (rx_state turn v.side.vhost v.guest.memory))
-            (λ y. rx_event (world_in x actors said) a.actor
-            a.seen vhost file v.side.vhost (OnFile file (Takes vhost)) (Some (found.Moved frame.name)) y)
-            (rx_state v.steps.turn v.left.vhost v.memory, act.Hand) _ v.steps.step
-            (event_of (world_in x actors said) a.actor a.seen vhost file v.side.vhost (OnFile file (Takes vhost))
-            (Some (found.Moved frame.name)) (rx_state v.steps.turn v.left.vhost v.memory, act.Hand) (found.Moved frame.name) told
-            refl is_told))));
+              ∙ some_then (at (files_of x.files) file) (λ f. changed (Takes vhost) f >>= (λ g. front_frame (setup a) g >>= (λ fr.
+              rx_step (hand.Got fr) (rx_state turn v.side.vhost v.guest.memory) >>= (λ y. rx_event (world_in x actors said) a.actor
+              a.seen vhost file v.side.vhost (OnFile file (Takes vhost)) (Some (found.Moved fr.name)) y)))) old.file _
+              (file_at file x.files old is_old)
+              (some_then (changed (Takes vhost) old.file) (λ g. front_frame (setup a) g >>= (λ fr.
+              rx_step (hand.Got fr) (rx_state turn v.side.vhost v.guest.memory) >>= (λ y. rx_event (world_in x actors said) a.actor
+              a.seen vhost file v.side.vhost (OnFile file (Takes vhost)) (Some (found.Moved fr.name)) y))) new.file _ changes
+              (some_then (front_frame (setup a) new.file) (λ fr.
+              rx_step (hand.Got fr) (rx_state turn v.side.vhost v.guest.memory) >>= (λ y. rx_event (world_in x actors said) a.actor
+              a.seen vhost file v.side.vhost (OnFile file (Takes vhost)) (Some (found.Moved fr.name)) y)) frame _ front
+              (some_then (rx_step (hand.Got frame) (rx_state turn v.side.vhost v.guest.memory))
+              (λ y. rx_event (world_in x actors said) a.actor
+              a.seen vhost file v.side.vhost (OnFile file (Takes vhost)) (Some (found.Moved frame.name)) y)
+              (rx_state v.steps.turn v.left.vhost v.memory, act.Hand) _ v.steps.step
+              (event_of (world_in x actors said) a.actor a.seen vhost file v.side.vhost (OnFile file (Takes vhost))
+              (Some (found.Moved frame.name)) (rx_state v.steps.turn v.left.vhost v.memory, act.Hand) (found.Moved frame.name) told
+              refl is_told))));
         }
 
   -- ---- NotReady
@@ -195,9 +192,12 @@ module _ (a : Asking) (vhost file : ℕ) (x : Shared) where
         then rx_event w a.actor a.seen vhost file k.side.vhost NoFile (Some (found.NotReady (front_place f))) made else None)) m.event.effect is in
         let two = then_some (rx_step (hand.NotReady (front_place one.0)) (rx_state waits k.side.vhost k.guest.memory))
         (λ made. if is_none (first_that in_batch one.0.line) && is_none (ready_front one.0.line)
-        then rx_event w a.actor a.seen vhost file k.side.vhost NoFile (Some (found.NotReady (front_place one.0))) made else None) m.event.effect one.2 in
-        (one.0, one.1, if_so (is_none (first_that in_batch one.0.line) && is_none (ready_front one.0.line))
-        (rx_event w a.actor a.seen vhost file k.side.vhost NoFile (Some (found.NotReady (front_place one.0))) two.0) m.event.effect two.2)
+        then rx_event w a.actor a.seen vhost file k.side.vhost NoFile (Some (found.NotReady (front_place one.0))) made else None) m.event.effect one.2 in (
+          one.0,
+          one.1,
+          if_so (is_none (first_that in_batch one.0.line) && is_none (ready_front one.0.line))
+              (rx_event w a.actor a.seen vhost file k.side.vhost NoFile (Some (found.NotReady (front_place one.0))) two.0) m.event.effect two.2,
+        )
 
     pub file_there : IsSome (at x.files file)
     file_there = let p = placed_at file x.files none_ready.0 none_ready.1 in ap (λ (o : Option Placed). is_some o) p.1
@@ -225,18 +225,18 @@ module _ (a : Asking) (vhost file : ℕ) (x : Shared) where
         has told is_told = record {
           is_next = next_all a vhost file event.NotReady x m k;
           is_row = λ actors said rest. none_row actors said rest v.side v.guest v.is_side v.is_guest
-            ∙ some_then (at (files_of x.files) file) (λ f. rx_step (hand.NotReady (front_place f)) (rx_state waits v.side.vhost v.guest.memory)
-            >>= (λ y. if is_none (first_that in_batch f.line) && is_none (ready_front f.line)
-            then rx_event (world_in x actors said) a.actor a.seen vhost file v.side.vhost NoFile (Some (found.NotReady (front_place f))) y
-            else None)) p.file _ (file_at file x.files p is_p)
-            (some_then (rx_step (hand.NotReady (front_place p.file)) (rx_state waits v.side.vhost v.guest.memory))
-            (λ y. if is_none (first_that in_batch p.file.line) && is_none (ready_front p.file.line)
-            then rx_event (world_in x actors said) a.actor a.seen vhost file v.side.vhost NoFile (Some (found.NotReady (front_place p.file))) y
-            else None) (rx_state v.steps.turn v.left.vhost v.memory, act.NotReady) _ v.steps.step
-            (ap (λ (b : Bool). if b
-            then rx_event (world_in x actors said) a.actor a.seen vhost file v.side.vhost NoFile (Some (found.NotReady (front_place p.file)))
-            (rx_state v.steps.turn v.left.vhost v.memory, act.NotReady) else None) tests
-            ∙ event_of (world_in x actors said) a.actor a.seen vhost file v.side.vhost NoFile
-            (Some (found.NotReady (front_place p.file))) (rx_state v.steps.turn v.left.vhost v.memory, act.NotReady)
-            (found.NotReady (front_place p.file)) told refl is_told));
+              ∙ some_then (at (files_of x.files) file) (λ f. rx_step (hand.NotReady (front_place f)) (rx_state waits v.side.vhost v.guest.memory)
+              >>= (λ y. if is_none (first_that in_batch f.line) && is_none (ready_front f.line)
+              then rx_event (world_in x actors said) a.actor a.seen vhost file v.side.vhost NoFile (Some (found.NotReady (front_place f))) y
+              else None)) p.file _ (file_at file x.files p is_p)
+              (some_then (rx_step (hand.NotReady (front_place p.file)) (rx_state waits v.side.vhost v.guest.memory))
+              (λ y. if is_none (first_that in_batch p.file.line) && is_none (ready_front p.file.line)
+              then rx_event (world_in x actors said) a.actor a.seen vhost file v.side.vhost NoFile (Some (found.NotReady (front_place p.file))) y
+              else None) (rx_state v.steps.turn v.left.vhost v.memory, act.NotReady) _ v.steps.step
+              (ap (λ (b : Bool). if b
+              then rx_event (world_in x actors said) a.actor a.seen vhost file v.side.vhost NoFile (Some (found.NotReady (front_place p.file)))
+              (rx_state v.steps.turn v.left.vhost v.memory, act.NotReady) else None) tests
+              ∙ event_of (world_in x actors said) a.actor a.seen vhost file v.side.vhost NoFile
+              (Some (found.NotReady (front_place p.file))) (rx_state v.steps.turn v.left.vhost v.memory, act.NotReady)
+              (found.NotReady (front_place p.file)) told refl is_told));
         }

@@ -1,5 +1,5 @@
 -- What is known where an event of a receive turn may be done.
-use Rattle.std.proofs.Common.{◌≡◌, ℕ, lit<, List, [], ◌∷◌, Bool, true, false, Option, Some, None, eq-eqb, refl, sym, ap, ◌∙◌, subst, true≢false}
+use Rattle.std.proofs.Common.{◌≡◌, ℕ, lit<, List, Bool, true, false, Option, Some, None, eq-eqb, refl, sym, ap, ◌∙◌, subst, true≢false}
 use Rattle.std.specs.Prelude.{◌==◌, ◌&&◌, ◌||◌, IfSome, IsSome, if◌then◌else◌, is_some, option_map}
 use Rattle.std.specs.Option.{option_map_or}
 use Rattle.tap_guests.specs.Side.{Side}
@@ -11,7 +11,7 @@ use Rattle.scen_words.specs.declared.command.Command.{Command}
 use Rattle.scen_words.specs.declared.command.Command.TheVariants as command
 use Rattle.tap_world.specs.declared.event.EventKind.{EventKind}
 use Rattle.tap_world.specs.ByNumber.{at}
-use Rattle.tap_world.specs.Guests.{Guest, Vhost, turn_of}
+use Rattle.tap_world.specs.Guests.{Guest}
 use Rattle.tap_world.specs.SoundRings.{holds_turn, is_about}
 use Rattle.tap_world.specs.Steady.{IsAtTurn, IsReceiving}
 use Rattle.tap_world.specs.World as come

@@ -1,6 +1,6 @@
 -- Vhosts, guests and files by number, of which one changes.
-use Rattle.std.proofs.Common.{◌≡◌, ◌⊎◌, ℕ, zero, suc, List, [], ◌∷◌, Option, Some, None, Result, Ok, Err, inl, inr, ⊎_elim, refl, sym, ap, ◌∙◌, subst, true≢false}
-use Rattle.std.specs.Prelude.{IfOk, IfSome, IsSome, is_some, map, option_map}
+use Rattle.std.proofs.Common.{◌≡◌, ◌⊎◌, ℕ, zero, suc, List, [], ◌∷◌, Option, Some, Result, Ok, Err, inl, inr, ⊎_elim, refl, sym, ap, subst}
+use Rattle.std.specs.Prelude.{IfOk, IfSome, IsSome, is_some, option_map}
 use Rattle.guest_mem.specs.declared.region.Region.{Region}
 use Rattle.tap_guests.specs.Side.{Side}
 use Rattle.tap_guests.specs.Within.{IsIn}

@@ -1,6 +1,6 @@
 -- A step of a receive turn that was made is an event that was done.
-use Rattle.std.proofs.Common.{◌≡◌, ◌⊎◌, ℕ, ◌==◌, ◌++◌, append-nil, List, [], ◌∷◌, Bool, true, false, Option, Some, None, inl, inr, ⊎_elim, refl, sym, ap, ◌∙◌, subst, true≢false}
-use Rattle.std.specs.Prelude.{IfSome, IsSome, if◌then◌else◌, is_some, map, option_map, option_to_list}
+use Rattle.std.proofs.Common.{◌≡◌, ℕ, ◌==◌, append-nil, List, [], Bool, false, Option, Some, None, ⊎_elim, refl, sym, ap, ◌∙◌, subst, true≢false}
+use Rattle.std.specs.Prelude.{IfSome, if◌then◌else◌, is_some, option_map}
 use Rattle.std.specs.Option.{option_map_or}
 use Rattle.guest_mem.specs.Memory.{Contents}
 use Rattle.tap_guests.specs.Side.{Side}
@@ -26,17 +26,15 @@ use Rattle.tap_world.specs.Guests.{Guest, Vhost, turn_of}
 use Rattle.tap_world.specs.Setup.{Setup}
 use Rattle.tap_world.specs.StepTurns.{end_told, kind_of, left, over_told, rx_effect, rx_onward, rx_over, rx_state}
 use Rattle.tap_world.specs.World as come
-use Rattle.vhost_rx.specs.Worker.{Worker}
 use Rattle.vhost_step.specs.Receive.{rx_did}
-use Rattle.vhost_queue.specs.Queue.{Queue}
 use Rattle.vring_turns.specs.declared.end.End.{End}
 use Rattle.vring_turns.specs.declared.end.TurnEnd.{TurnEnd}
 use Rattle.vring_turns.specs.declared.stage.RxStage.{RxStage}
 use Rattle.vring_turns.specs.declared.stage.RxStage.TheVariants as rx
-use Rattle.vring_turns.specs.RxTurn.{RxState, RxTurn, rx_report}
+use Rattle.vring_turns.specs.RxTurn.{RxTurn, rx_report}
 use Rattle.core_shared.specs.Asking.{Asking, setup}
 use Rattle.core_shared.specs.Coming.{come_of, onward_of, rx_turn_in, tx_turn_in, written_out}
-use Rattle.core_shared.specs.Did.{Did, HasEffect, IsLeft, TurnsStay}
+use Rattle.core_shared.specs.Did.{Did, HasEffect, TurnsStay}
 use Rattle.core_shared.specs.Held.{IsHeld}
 use Rattle.core_shared.specs.Suiting.{SuitsOn}
 use Rattle.core_shared.specs.Worlds.{vhosts_of, world_in}
@@ -46,7 +44,7 @@ use Rattle.core_shared.specs.declared.onward.Onward.{Onward}
 use Rattle.core_shared.specs.declared.onward.Onward.TheVariants as on
 use Rattle.core_shared.specs.declared.shared.Shared.{Shared}
 use Rattle.core_receive.specs.Going.{AreSent, turn_goes}
-use Rattle.core_receive.specs.Moved.{Moved, told_to, with_turn_made}
+use Rattle.core_receive.specs.Moved.{told_to, with_turn_made}
 use Rattle.core_receive.proofs.Lists.{at_either, at_with, lies_still, vhosts_with}
 
 -- ---- the end of a turn
@@ -90,7 +88,7 @@ goes_on a vhost file f t next e =
       is_told = refl;
       same = refl;
       onward = λ vhosts so_far is.
-        sym (ap (λ (o : Option RxTurn). Goes a.seen (option_map_or (come.Doing.Receives file) o come.Doing.Begun) f) is);
+          sym (ap (λ (o : Option RxTurn). Goes a.seen (option_map_or (come.Doing.Receives file) o come.Doing.Begun) f) is);
       suits = λ vhosts is c. (c, ap (λ (o : Option RxTurn). is_some o) is);
     })
 
@@ -207,46 +205,46 @@ pub made :
     → Did a d kind old (with_turn_made vhost side.vhost.guest new (told_to a vhost act memory guest) files old) next
 made a d kind h vhost file t act over files old next side new guest memory change f is_side is_guest steps within same
     held is_files sent goes is_command own has = record {
-  effect = the_effect;
-  has = has end.told end.is_told;
-  left = record {
-    ops = sym (append-nil old.ops.ops);
-    files = is_files;
-    guests = guests_left a vhost side.vhost.guest act memory old.guests guest is_guest;
-    vhosts = ap (λ (v : Vhost). with_at vhost v (vhosts_of old.vhosts)) is_left ∙ vhosts_with old.vhosts vhost new;
-    hosted = sym (append-nil old.hosted.items);
-    dropped = sym (append-nil old.dropped.items);
-    writer = refl;
-    phase = refl;
-  };
-  onward = end.onward (with_at vhost new old.vhosts) (come_of old.vhosts d) worker;
-  held = record {
-    table = held.table;
-    frames = sent;
-    vhosts = vhosts_lie (setup a) old vhost side new guest (told_to a vhost act memory guest) held is_side is_guest same
-        (ap (λ (v : Vhost). v.guest) steps.vhost) within;
-  };
-  suits = end.suits (with_at vhost new old.vhosts) worker is_command;
-  stay = turns_stay a.actor vhost old.vhosts side new is_side own (ap (λ (s : Side). s.tx) steps.only);
-} where
-  over_is : over ≡ option_map (rx_report steps.turn) (rx_over steps.turn.stage)
-  over_is = steps.did ∙ did_over steps.turn.stage steps.turn
+      effect = the_effect;
+      has = has end.told end.is_told;
+      left = record {
+        ops = sym (append-nil old.ops.ops);
+        files = is_files;
+        guests = guests_left a vhost side.vhost.guest act memory old.guests guest is_guest;
+        vhosts = ap (λ (v : Vhost). with_at vhost v (vhosts_of old.vhosts)) is_left ∙ vhosts_with old.vhosts vhost new;
+        hosted = sym (append-nil old.hosted.items);
+        dropped = sym (append-nil old.dropped.items);
+        writer = refl;
+        phase = refl;
+      };
+      onward = end.onward (with_at vhost new old.vhosts) (come_of old.vhosts d) worker;
+      held = record {
+        table = held.table;
+        frames = sent;
+        vhosts = vhosts_lie (setup a) old vhost side new guest (told_to a vhost act memory guest) held is_side is_guest same
+            (ap (λ (v : Vhost). v.guest) steps.vhost) within;
+      };
+      suits = end.suits (with_at vhost new old.vhosts) worker is_command;
+      stay = turns_stay a.actor vhost old.vhosts side new is_side own (ap (λ (s : Side). s.tx) steps.only);
+    } where
+      over_is : over ≡ option_map (rx_report steps.turn) (rx_over steps.turn.stage)
+      over_is = steps.did ∙ did_over steps.turn.stage steps.turn
 
-  same_over : is_some over ≡ is_some (rx_over steps.turn.stage)
-  same_over = ap (λ (o : Option TurnEnd). is_some o) over_is ∙ is_mapped (rx_report steps.turn) (rx_over steps.turn.stage)
+      same_over : is_some over ≡ is_some (rx_over steps.turn.stage)
+      same_over = ap (λ (o : Option TurnEnd). is_some o) over_is ∙ is_mapped (rx_report steps.turn) (rx_over steps.turn.stage)
 
-  end : GoesSo a vhost file f (rx_over steps.turn.stage) steps.turn next
-  end = goes_so a vhost file f (rx_over steps.turn.stage) steps.turn next
-      (sym (ap (λ (o : Option TurnEnd). turn_goes a.seen vhost file f o) over_is) ∙ goes)
+      end : GoesSo a vhost file f (rx_over steps.turn.stage) steps.turn next
+      end = goes_so a vhost file f (rx_over steps.turn.stage) steps.turn next
+          (sym (ap (λ (o : Option TurnEnd). turn_goes a.seen vhost file f o) over_is) ∙ goes)
 
-  the_effect : Effect
-  the_effect = rx_effect (world_in old [] []) a.actor a.seen vhost file side.vhost change f end.told
-      (rx_state steps.turn new.vhost memory, act)
+      the_effect : Effect
+      the_effect = rx_effect (world_in old [] []) a.actor a.seen vhost file side.vhost change f end.told
+          (rx_state steps.turn new.vhost memory, act)
 
-  is_left : left 0 a.actor (is_some end.told) new.vhost.settings.rx.queue side.vhost ≡ new.vhost
-  is_left = ap (λ (b : Bool). left 0 a.actor b new.vhost.settings.rx.queue side.vhost) end.same ∙ sym steps.vhost
+      is_left : left 0 a.actor (is_some end.told) new.vhost.settings.rx.queue side.vhost ≡ new.vhost
+      is_left = ap (λ (b : Bool). left 0 a.actor b new.vhost.settings.rx.queue side.vhost) end.same ∙ sym steps.vhost
 
-  worker : rx_turn_in (with_at vhost new old.vhosts) vhost
-      ≡ (if is_some (rx_over steps.turn.stage) then None else Some steps.turn)
-  worker = ap (λ (o : Option Side). o >>= (λ v. option_map (λ w. w.turn) v.rx)) (at_with old.vhosts vhost side new is_side)
-      ∙ steps.worker ∙ ap (λ (b : Bool). if b then None else Some steps.turn) same_over
+      worker : rx_turn_in (with_at vhost new old.vhosts) vhost
+          ≡ (if is_some (rx_over steps.turn.stage) then None else Some steps.turn)
+      worker = ap (λ (o : Option Side). o >>= (λ v. option_map (λ w. w.turn) v.rx)) (at_with old.vhosts vhost side new is_side)
+          ∙ steps.worker ∙ ap (λ (b : Bool). if b then None else Some steps.turn) same_over

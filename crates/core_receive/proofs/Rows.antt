@@ -1,15 +1,10 @@
 -- The rows of a receive turn's events, at a turn and a vhost that are known.
-use Rattle.std.proofs.Common.{◌≡◌, ℕ, List, [], ◌∷◌, Bool, true, false, Option, Some, None, refl, sym, ap, ◌∙◌, subst, true≢false}
-use Rattle.std.specs.Prelude.{if◌then◌else◌, is_none, ◌&&◌}
+use Rattle.std.proofs.Common.{◌≡◌, ℕ, List, false, Option, Some, refl, ap, ◌∙◌, subst, true≢false}
 use Rattle.guest_mem.specs.Memory.{Contents}
-use Rattle.tap_frame.specs.declared.name.Name.{Name}
 use Rattle.tap_ledger.specs.declared.act.Act.{Act}
-use Rattle.tap_ledger.specs.declared.hand.Hand.{Hand}
 use Rattle.tap_ledger.specs.declared.hand.Hand.TheVariants as hand
 use Rattle.tap_sound.proofs.Kit.{some_same, some_then, then_some}
-use Rattle.tap_trace.specs.declared.kind.Kind.{Kind}
 use Rattle.tap_trace.specs.declared.turn.TurnText.{TurnText}
-use Rattle.scen_words.specs.declared.command.Command.{Command}
 use Rattle.scen_words.specs.declared.command.Command.TheVariants as command
 use Rattle.tap_world.specs.declared.event.EventKind.{EventKind}
 use Rattle.tap_world.specs.declared.event.EventKind.TheVariants as event
@@ -19,12 +14,12 @@ use Rattle.tap_ground.specs.Options.{◌>>=◌}
 use Rattle.tap_world.specs.ByNumber.{at}
 use Rattle.tap_world.specs.Effect.{Effect, OnFiles}
 use Rattle.tap_world.specs.Guests.{Guest, Vhost}
-use Rattle.tap_world.specs.Scripts.{next_kind, rx_next_kind}
+use Rattle.tap_world.specs.Scripts.{rx_next_kind}
 use Rattle.tap_world.specs.Setup.{Numbered, Setup}
 use Rattle.tap_world.specs.Step.{row}
 use Rattle.tap_world.specs.StepTransmits.{goes_on, on_turn}
 use Rattle.tap_world.specs.StepTurns.{found_by, held_name, kind_of, over_told, rx_change, rx_effect, rx_event, rx_over, rx_state, rx_steps_on}
-use Rattle.tap_world.specs.World.{Actor, Doing, World}
+use Rattle.tap_world.specs.World.{Actor, World}
 use Rattle.tap_world.specs.World.Doing.{Receives}
 use Rattle.vring_turns.specs.declared.stage.RxStage.{RxStage}
 use Rattle.vring_turns.specs.declared.stage.RxStage.TheVariants as rx
@@ -69,11 +64,11 @@ event_of w actor seen vhost file v change o made f told is_f is_told =
 -- ---- a step that asks for no frame
 
 pub record StepIs (w : World) (actor seen vhost file : ℕ) (t : RxTurn) (v : Vhost) (m : Contents) (r : Effect) : Type 0
-    where
-  pub made : RxState × Act
-  pub step : rx_step hand.Off (rx_state t v m) ≡ Some made
-  pub event : EventIs w actor seen vhost file v (rx_change vhost file t t.stage)
-      (found_by (kind_of vhost 0 made.1) (held_name t.held)) made r
+  where
+    pub made : RxState × Act
+    pub step : rx_step hand.Off (rx_state t v m) ≡ Some made
+    pub event : EventIs w actor seen vhost file v (rx_change vhost file t t.stage)
+        (found_by (kind_of vhost 0 made.1) (held_name t.held)) made r
 
 pub step_is :
     (w : World) (actor seen vhost file : ℕ) (t : RxTurn) (v : Vhost) (m : Contents) (r : Effect)

@@ -1,34 +1,29 @@
 -- The step of a receive turn that asks for no frame, as an event.
-use Rattle.std.proofs.Common.{◌≡◌, ℕ, List, [], ◌∷◌, Bool, true, false, Option, Some, None, refl, sym, ap, ◌∙◌, subst, true≢false}
-use Rattle.std.specs.Prelude.{IfSome, IsSome, is_some, option_map}
+use Rattle.std.proofs.Common.{◌≡◌, ℕ, List, [], ◌∷◌, true, false, Option, Some, None, refl, sym, ap, ◌∙◌, subst, true≢false}
+use Rattle.std.specs.Prelude.{IfSome, is_some}
 use Rattle.std.specs.Option.{option_map_or}
 use Rattle.tap_frame.specs.declared.name.Name.{Name}
 use Rattle.tap_frame.specs.Frame.{FrameValue}
 use Rattle.tap_guests.specs.Side.{Side}
 use Rattle.tap_ledger.specs.declared.act.Act.{Act}
-use Rattle.tap_ledger.specs.declared.fate.Fate.TheVariants as fate
 use Rattle.tap_ledger.specs.declared.hand.Hand.TheVariants as hand
 use Rattle.tap_lines.specs.Files.{files_of}
 use Rattle.tap_lines.specs.Placed.{MayChange, Placed}
-use Rattle.tap_sound.proofs.Kit.{some_same, then_some}
+use Rattle.tap_sound.proofs.Kit.{some_same}
 use Rattle.tap_trace.specs.declared.kind.Kind.{Kind}
 use Rattle.tap_trace.specs.declared.turn.TurnText.{TurnText}
 use Rattle.scen_words.specs.declared.command.Command.{Command}
-use Rattle.scen_words.specs.declared.command.Command.TheVariants as command
-use Rattle.tap_ground.specs.Options.{◌>>=◌}
 use Rattle.tap_world.specs.declared.event.EventKind.{EventKind}
 use Rattle.tap_world.specs.declared.event.Found.{Found}
 use Rattle.tap_world.specs.declared.told.Said.{Said}
 use Rattle.tap_world.specs.ByNumber.{at}
 use Rattle.tap_world.specs.Effect.{Effect, OnFiles, files_after}
-use Rattle.tap_world.specs.Effect.OnFiles.{NoFile, OnFile}
-use Rattle.tap_world.specs.Guests.{Guest, Vhost}
+use Rattle.tap_world.specs.Effect.OnFiles.{OnFile}
 use Rattle.tap_world.specs.Line.{File}
-use Rattle.tap_world.specs.LineSteps.Change.{Leaves, PutsBack}
 use Rattle.tap_world.specs.Scripts.{next_kind, rx_next_kind}
 use Rattle.tap_world.specs.Setup.{Numbered, Setup}
 use Rattle.tap_world.specs.Step.{row}
-use Rattle.tap_world.specs.StepTransmits.{goes_on, on_turn}
+use Rattle.tap_world.specs.StepTransmits.{goes_on}
 use Rattle.tap_world.specs.StepTurns.{found_by, front_frame, held_name, kind_of, over_told, rx_change, rx_effect, rx_over, rx_state, rx_steps_on}
 use Rattle.tap_world.specs.World as come
 use Rattle.tap_world.specs.World.{Actor, World}
@@ -39,23 +34,23 @@ use Rattle.vhost_step.specs.declared.went.Went.{Went}
 use Rattle.vring_turns.specs.declared.end.TurnEnd.{TurnEnd}
 use Rattle.vring_turns.specs.declared.stage.RxStage.{RxStage}
 use Rattle.vring_turns.specs.declared.stage.RxStage.TheVariants as rx
-use Rattle.vring_turns.specs.RxTurn.{RxState, RxTurn, overrun, rx_step}
-use Rattle.vring_turns.specs.Stage.{has_in_hand, is_asking, need_at}
+use Rattle.vring_turns.specs.RxTurn.{RxState, RxTurn}
+use Rattle.vring_turns.specs.Stage.{has_in_hand, is_asking}
 use Rattle.core_shared.proofs.Kit.{placed_at, vhost_at}
 use Rattle.core_shared.proofs.Knowing.{were_sent}
 use Rattle.core_shared.proofs.Taking.{may_change}
 use Rattle.core_shared.specs.Asking.{Asking, setup}
-use Rattle.core_shared.specs.Coming.{come_of, rx_turn_in}
+use Rattle.core_shared.specs.Coming.{come_of}
 use Rattle.core_shared.specs.Did.{Did, HasEffect}
-use Rattle.core_shared.specs.MayDo.{MayDo, MayGo, actor_at}
+use Rattle.core_shared.specs.MayDo.{MayDo, actor_at}
 use Rattle.core_shared.specs.Worlds.{world_in}
 use Rattle.core_shared.specs.declared.doing.Doing.TheVariants as doing
 use Rattle.core_shared.specs.declared.onward.Onward.{Onward}
 use Rattle.core_shared.specs.declared.shared.Shared.{Shared}
 use Rattle.core_receive.specs.Going.{AreSent, ComesSent, MayGoSo, file_change, turn_goes}
-use Rattle.core_receive.specs.Moved.{Moved, told_to, with_turn_made}
+use Rattle.core_receive.specs.Moved.{Moved}
 use Rattle.core_receive.proofs.Fronting.{HasFront, front_is}
-use Rattle.core_receive.proofs.Known.{Known, known}
+use Rattle.core_receive.proofs.Known.{Known}
 use Rattle.core_receive.proofs.Made.{made}
 use Rattle.core_receive.proofs.Rows.{StepIs, next_any, on_turn_is, row_at, step_is, step_of}
 
@@ -117,7 +112,6 @@ module _ (a : Asking) (vhost file : ℕ) (kind : EventKind) (x mid : Shared) (ac
     (v : Moved a hand.Off vhost k.worker.turn x act over mid)
     (goes_out : went ≡ rx_went k.worker.turn.stage k.worker.turn)
     (asks : is_asking k.worker.turn.stage ≡ false) where
-
   abbrev pub t : RxTurn
   t = k.worker.turn
 
@@ -222,11 +216,11 @@ module _ (a : Asking) (vhost file : ℕ) (kind : EventKind) (x mid : Shared) (ac
           (rx_state v.steps.turn v.left.vhost v.memory, act))
       has told is_told = record {
         is_next = λ actors said.
-          ap (λ (d : come.Doing). next_kind (world_in x actors said) d a.command) k.come
-          ∙ next_any x file actors m.actors said m.said t.stage ∙ is_next;
+            ap (λ (d : come.Doing). next_kind (world_in x actors said) d a.command) k.come
+            ∙ next_any x file actors m.actors said m.said t.stage ∙ is_next;
         is_row = λ actors said rest. row_is actors said rest
-          ∙ step_of (world_in x actors said) a.actor a.seen vhost file t v.side.vhost v.guest.memory
-          (rx_state v.steps.turn v.left.vhost v.memory, act) f told v.steps.step is_f is_told;
+            ∙ step_of (world_in x actors said) a.actor a.seen vhost file t v.side.vhost v.guest.memory
+            (rx_state v.steps.turn v.left.vhost v.memory, act) f told v.steps.step is_f is_told;
       }
 
   -- what the code found is what the event tells

@@ -1,5 +1,5 @@
 -- This project's own: how a receive turn goes on behind an event, and what becomes of its file.
-use Rattle.std.specs.Prelude.{◌≡◌, ℕ, [], List, Option, Some, None, IfSome, option_map, slice_get}
+use Rattle.std.specs.Prelude.{◌≡◌, ℕ, [], List, Option, Some, None, option_map, slice_get}
 use Rattle.tap_frame.specs.Frame.{FrameValue}
 use Rattle.tap_lines.specs.Framed.{IsFrameAt}
 use Rattle.tap_lines.specs.Placed.{MayChange, Placed}

@@ -8,7 +8,6 @@
 mod first;
 mod later;
 mod moved;
-mod scratch;
 mod told;
 
 pub use first::begin_receive;

@@ -1,8 +1,7 @@
-use Rattle.std.proofs.Common.{◌≡◌, Some, true, false, sym, ap, ◌∙◌, subst}
+use Rattle.std.proofs.Common.{true, false, sym, ◌∙◌}
 use Rattle.tap_world.specs.declared.event.EventKind.TheVariants as event
 use Rattle.core_shared.proofs.Knowing.{may_do}
 use Rattle.core_receive.proofs.Known.{asked_is, can_step, file_is_there, hand_kind, known}
-use Rattle.core_receive.proofs.Lists.{map_ok}
 use Rattle.core_receive.proofs.later.receive.Goals as goal
 
 pub step-requires-clause-steps : goal.step-requires-clause-steps

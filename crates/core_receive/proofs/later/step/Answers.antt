@@ -1,4 +1,4 @@
-use Rattle.std.proofs.Common.{◌≡◌, IfOk, IsSome, Some, Option, Result, Ok, Err, is_some, sym, ap, ◌∙◌}
+use Rattle.std.proofs.Common.{is_some, sym, ap, ◌∙◌}
 use Rattle.core_receive.proofs.Known.{known, asks_as}
 use Rattle.core_receive.proofs.Lists.{map_ok}
 use Rattle.core_receive.proofs.Stepped.{did, found_is, is_found, is_there, may_go_so}
@@ -56,8 +56,11 @@ returns c =
     c.side.ensures c.found_by.ensures c.kind_of.ensures c.in_hand-name.ensures in
     record {
       went = map_ok _ _ c.onward.result
-          (λ next goes. (c.requires.may.0, did a c.args.vhost c.args.file c.requires.may.0 x c.step_turn.new.shared
-          c.in_ok-act.field-0.act c.in_ok-act.field-0.over c.in_ok-act.field-0.went m k (e.moved k.worker.turn k.turn)
-          (e.went k.worker.turn k.turn) asks c.change_file.new.files c.unwrap-found.result next c.change_file.ensures.files
-          c.change_file.ensures.sent (sym found ∙ c.unwrap-found.ensures) goes)) c.onward.ensures;
+          (λ next goes. (
+            c.requires.may.0,
+            did a c.args.vhost c.args.file c.requires.may.0 x c.step_turn.new.shared
+                c.in_ok-act.field-0.act c.in_ok-act.field-0.over c.in_ok-act.field-0.went m k (e.moved k.worker.turn k.turn)
+                (e.went k.worker.turn k.turn) asks c.change_file.new.files c.unwrap-found.result next c.change_file.ensures.files
+                c.change_file.ensures.sent (sym found ∙ c.unwrap-found.ensures) goes,
+          )) c.onward.ensures;
     }

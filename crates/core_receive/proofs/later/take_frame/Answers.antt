@@ -1,5 +1,4 @@
-use Rattle.std.proofs.Common.{◌≡◌, Some, Option, is_some, sym, ap, ◌∙◌}
-use Rattle.tap_frame.specs.declared.name.Name.{Name}
+use Rattle.std.proofs.Common.{Some, sym, ap, ◌∙◌}
 use Rattle.tap_world.specs.declared.event.EventKind.TheVariants as event
 use Rattle.tap_world.specs.declared.event.Found.TheVariants as found
 use Rattle.core_shared.specs.declared.doing.Doing.TheVariants as doing

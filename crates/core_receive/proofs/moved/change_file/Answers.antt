@@ -1,9 +1,8 @@
-use Rattle.std.proofs.Common.{◌≡◌, IfSome, ℕ, Some, Option, ap, sym, ◌∙◌, subst}
+use Rattle.std.proofs.Common.{◌≡◌, IfSome, ℕ, Some, Option, ap, ◌∙◌, subst}
 use Rattle.std.specs.Prelude.{slice_set}
 use Rattle.tap_lines.specs.Files.{files_of}
 use Rattle.tap_lines.specs.Placed.{Placed}
 use Rattle.tap_world.specs.Effect.{files_after}
-use Rattle.tap_world.specs.Line.{first_that, in_batch}
 use Rattle.tap_world.specs.LineSteps.Change.{Leaves, PutsBack}
 use Rattle.vhost_step.specs.declared.went.Went.{Went}
 use Rattle.core_receive.specs.Going.{ComesSent, MayGoSo, file_change}
