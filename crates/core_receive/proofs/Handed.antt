@@ -32,6 +32,7 @@ use Rattle.tap_world.specs.World.{Actor, World}
 use Rattle.tap_world.specs.World.Doing.{Receives}
 use Rattle.vring_turns.specs.declared.end.TurnEnd.{TurnEnd}
 use Rattle.vring_turns.specs.RxTurn.{RxTurn, rx_step}
+use Rattle.core_shared.proofs.Leaving.{file_left}
 use Rattle.core_shared.proofs.Kit.{file_at, placed_at, vhost_at}
 use Rattle.core_shared.specs.Asking.{Asking, setup}
 use Rattle.core_shared.specs.Coming.{come_of}
@@ -43,7 +44,7 @@ use Rattle.core_shared.specs.declared.onward.Onward.{Onward}
 use Rattle.core_shared.specs.declared.shared.Shared.{Shared}
 use Rattle.core_receive.specs.Going.{turn_goes}
 use Rattle.core_receive.specs.Moved.{Moved}
-use Rattle.core_receive.proofs.Changing.{files_changed, sent_gone}
+use Rattle.core_receive.proofs.Changing.{sent_gone}
 use Rattle.core_receive.proofs.Fronting.{front_of}
 use Rattle.core_receive.proofs.Known.{Known, next_all, own_turn}
 use Rattle.core_receive.proofs.Made.{made}
@@ -124,7 +125,7 @@ module _ (a : Asking) (vhost file : ℕ) (x : Shared) where
         subst (λ (y : Shared). Did a (doing.Receives vhost file) event.Hand x y next) (sym v.becomes)
         (made a (doing.Receives vhost file) event.Hand (hand.Got frame) vhost file turn act.Hand None (with_at file new x.files) x next
         v.side v.left v.guest v.memory (OnFile file (Takes vhost)) (found.Moved frame.name) v.is_side v.is_guest v.steps
-        v.within v.regions m.held (files_changed x.files file (Takes vhost) old new is_old changes)
+        v.within v.regions m.held (file_left file (Takes vhost) x.files old new is_old changes)
         (sent_gone (setup a) x.files file goes.index old new is_old goes.gone m.held.frames)
         going k.command (own_turn a vhost file event.Hand x m k v.side v.is_side) has)
       where
@@ -198,9 +199,6 @@ module _ (a : Asking) (vhost file : ℕ) (x : Shared) where
           if_so (is_none (first_that in_batch one.0.line) && is_none (ready_front one.0.line))
               (rx_event w a.actor a.seen vhost file k.side.vhost NoFile (Some (found.NotReady (front_place one.0))) two.0) m.event.effect two.2,
         )
-
-    pub file_there : IsSome (at x.files file)
-    file_there = let p = placed_at file x.files none_ready.0 none_ready.1 in ap (λ (o : Option Placed). is_some o) p.1
 
     pub found_none : (mid : Shared) (p : Placed) (over : Option TurnEnd) (next : Onward)
         → at x.files file ≡ Some p

@@ -1,26 +1,23 @@
 -- What is known where an event of a receive turn may be done.
-use Rattle.std.proofs.Common.{◌≡◌, ℕ, lit<, List, Bool, true, false, Option, Some, None, eq-eqb, refl, sym, ap, ◌∙◌, subst, true≢false}
-use Rattle.std.specs.Prelude.{◌==◌, ◌&&◌, ◌||◌, IfSome, IsSome, if◌then◌else◌, is_some, option_map}
+use Rattle.std.proofs.Common.{◌≡◌, ℕ, lit<, List, Bool, true, false, Option, Some, None, refl, sym, ap, ◌∙◌, true≢false}
+use Rattle.std.specs.Prelude.{◌||◌, IsSome, if◌then◌else◌, is_some, option_map}
 use Rattle.std.specs.Option.{option_map_or}
 use Rattle.tap_guests.specs.Side.{Side}
 use Rattle.tap_guests.specs.Within.{IsIn}
 use Rattle.tap_ground.specs.Options.{◌>>=◌}
 use Rattle.tap_sound.proofs.Kit.{some_same}
-use Rattle.tap_sound.proofs.Turned.{at_is}
-use Rattle.scen_words.specs.declared.command.Command.{Command}
 use Rattle.scen_words.specs.declared.command.Command.TheVariants as command
 use Rattle.tap_world.specs.declared.event.EventKind.{EventKind}
 use Rattle.tap_world.specs.ByNumber.{at}
 use Rattle.tap_world.specs.Guests.{Guest}
-use Rattle.tap_world.specs.SoundRings.{holds_turn, is_about}
-use Rattle.tap_world.specs.Steady.{IsAtTurn, IsReceiving}
+use Rattle.tap_world.specs.Steady.{IsReceiving}
 use Rattle.tap_world.specs.World as come
 use Rattle.tap_world.specs.World.{name_of}
 use Rattle.vhost_rx.specs.Worker.{Worker}
 use Rattle.vring_turns.specs.RxTurn.{RxTurn}
 use Rattle.core_shared.specs.Asking.{Asking, setup}
 use Rattle.core_shared.specs.Coming.{come_of, rx_turn_in}
-use Rattle.core_shared.specs.MayDo.{MayDo, actor_at}
+use Rattle.core_shared.specs.MayDo.{MayDo}
 use Rattle.core_shared.specs.Worlds.{world_in}
 use Rattle.core_shared.specs.declared.doing.Doing.TheVariants as doing
 use Rattle.core_shared.specs.declared.shared.Shared.{Shared}
@@ -34,11 +31,11 @@ use Rattle.tap_world.specs.Line.{has_batch}
 use Rattle.tap_world.specs.LineSteps.{ready_front}
 use Rattle.tap_world.specs.Scripts.{hand_next, next_kind, rx_next_kind}
 use Rattle.tap_world.specs.World.{Actor}
-use Rattle.core_shared.proofs.Kit.{placed_at}
-use Rattle.core_shared.proofs.Knowing.{next_on}
+use Rattle.core_shared.proofs.Kit.{placed_at, there}
+use Rattle.core_shared.proofs.Knowing.{next_on, receiving}
 use Rattle.core_receive.proofs.Rows.{next_any}
 use Rattle.core_receive.specs.Ready.{CanStep}
-use Rattle.core_receive.proofs.Lists.{vhosts_at}
+use Rattle.core_shared.proofs.Taking.{about_rx, guest_of_there, holds_its_turn, lies_in, rx_at, rx_holds}
 
 -- the vhost with its worker, whose turn is this actor's, and the guest
 pub record Known (a : Asking) (vhost file : ℕ) (kind : EventKind) (x : Shared)
@@ -66,37 +63,23 @@ worker_in (Some s) h = let w = go s.rx h in (s, refl, w.0, w.1)
     go None h = absurd (true≢false (sym h))
     go (Some w) h = (w, refl)
 
--- the guest of a vhost is there, and the vhost lies in its memory
-in_guest : (o : Option Guest) (g : Guest) (s : Side) → o ≡ Some g → IfSome o (λ (x : Guest). IsIn x.memory.regions s)
-    → IsIn g.memory.regions s
-in_guest o g s is h = subst (λ (p : Option Guest). IfSome p (λ (x : Guest). IsIn x.memory.regions s)) is h
-
-about_itself : (vhost : ℕ) → (vhost == vhost && 0 == 0) ≡ true
-about_itself vhost = ap (λ (b : Bool). b && 0 == 0) (eq-eqb vhost vhost refl)
-
 pub known : (a : Asking) (vhost file : ℕ) (kind : EventKind) (x : Shared) (m : MayDo a (doing.Receives vhost file) kind x)
     → Known a vhost file kind x m
 known a vhost file kind x m = record {
   side = side;
   is_side = is_side;
   worker = worker;
-  is_worker = is_worker;
-  guest = in_ring.0;
-  is_guest = in_ring.1;
-  within = in_guest (at x.guests side.vhost.guest) in_ring.0 side in_ring.1 (m.held.vhosts vhost side is_side);
+  is_worker = found.3;
+  guest = guest.0;
+  is_guest = guest.1;
+  within = lies_in m vhost side guest.0 is_side guest.1;
   command = m.suits.0;
   turn = turn;
-  come = so_far;
-  holder = at_is a.actor side.vhost.rx_turn (sym
-      (m.sound.actors.turns vhost side.vhost there 0 a.actor (actor_at a _ m.rest) (lit< tt) m.is_actor) ∙ holds);
-  receives = subst (λ (c : Command). IsAtTurn (setup a) w (name_of a.actor a.number) c (come.Doing.Receives file worker.turn))
-      m.suits.0
-      (subst (λ (d : come.Doing). IsAtTurn (setup a) w (name_of a.actor a.number) a.command d) so_far
-      (m.steady.turns a.actor (actor_at a _ m.rest) m.is_actor (record { number = a.number; command = a.command }) refl));
+  come = ap (λ (o : Option RxTurn). option_map_or (come.Doing.Receives file) o come.Doing.Begun) turn;
+  holder = holds_its_turn m vhost 0 side (lit< tt) is_side (rx_holds (rx_turn_in x.vhosts vhost) file m.suits.1)
+      (about_rx a vhost m.suits.0);
+  receives = receiving m worker.turn turn;
 } where
-  w : come.World
-  w = world_in x m.actors m.said
-
   found : (s : Side) × (at x.vhosts vhost ≡ Some s) × (w : Worker) × (s.rx ≡ Some w)
   found = worker_in (at x.vhosts vhost) m.suits.1
 
@@ -109,28 +92,11 @@ known a vhost file kind x m = record {
   worker : Worker
   worker = found.2
 
-  is_worker : side.rx ≡ Some worker
-  is_worker = found.3
-
-  there : at w.vhosts vhost ≡ Some side.vhost
-  there = vhosts_at x.vhosts vhost side is_side
-
-  in_ring : (g : Guest) × (at x.guests side.vhost.guest ≡ Some g)
-  in_ring = let r = m.sound.rings.rings vhost side.vhost there in (r.0, r.1)
+  guest : (g : Guest) × (at x.guests side.vhost.guest ≡ Some g)
+  guest = there (at x.guests side.vhost.guest) (guest_of_there m vhost side is_side)
 
   turn : rx_turn_in x.vhosts vhost ≡ Some worker.turn
-  turn = ap (λ (o : Option Side). o >>= (λ v. option_map (λ q. q.turn) v.rx)) is_side
-      ∙ ap (λ (o : Option Worker). option_map (λ q. q.turn) o) is_worker
-
-  so_far : come_of x.vhosts (doing.Receives vhost file) ≡ come.Doing.Receives file worker.turn
-  so_far = ap (λ (o : Option RxTurn). option_map_or (come.Doing.Receives file) o come.Doing.Begun) turn
-
-  holds : (holds_turn (come_of x.vhosts (doing.Receives vhost file))
-      && is_about vhost 0 (Some (record { number = a.number; command = a.command }))) ≡ true
-  holds = ap (λ (d : come.Doing). holds_turn d && is_about vhost 0 (Some (record { number = a.number; command = a.command })))
-      so_far
-      ∙ ap (λ (c : Command). is_about vhost 0 (Some (record { number = a.number; command = c }))) m.suits.0
-      ∙ about_itself vhost
+  turn = rx_at x.vhosts vhost side is_side ∙ ap (λ (o : Option Worker). option_map (λ q. q.turn) o) found.3
 
 -- a turn of which it is told that it asks for a frame or doesn't
 pub asks_as : (a : Asking) (vhost file : ℕ) (kind : EventKind) (x : Shared) (m : MayDo a (doing.Receives vhost file) kind x)

@@ -1,4 +1,4 @@
-mod Lists
+mod Results
 mod Changing
 mod Fronting
 mod Made

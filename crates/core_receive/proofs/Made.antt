@@ -1,6 +1,6 @@
 -- A step of a receive turn that was made is an event that was done.
-use Rattle.std.proofs.Common.{◌≡◌, ℕ, ◌==◌, append-nil, List, [], Bool, false, Option, Some, None, ⊎_elim, refl, sym, ap, ◌∙◌, subst, true≢false}
-use Rattle.std.specs.Prelude.{IfSome, if◌then◌else◌, is_some, option_map}
+use Rattle.std.proofs.Common.{◌≡◌, ℕ, ◌==◌, List, [], Bool, Option, Some, None, refl, sym, ap, ◌∙◌, subst, true≢false}
+use Rattle.std.specs.Prelude.{if◌then◌else◌, is_some, option_map}
 use Rattle.std.specs.Option.{option_map_or}
 use Rattle.guest_mem.specs.Memory.{Contents}
 use Rattle.tap_guests.specs.Side.{Side}
@@ -19,11 +19,9 @@ use Rattle.tap_world.specs.declared.event.EventKind.{EventKind}
 use Rattle.tap_world.specs.declared.event.Found.{Found}
 use Rattle.tap_ground.specs.Options.{◌>>=◌}
 use Rattle.tap_world.specs.ByNumber.{at, with_at}
-use Rattle.tap_world.specs.Effect.{Effect, OnFiles, files_after, guests_after}
-use Rattle.tap_world.specs.Effect.OnGuests.{OnGuest}
+use Rattle.tap_world.specs.Effect.{Effect, OnFiles, files_after}
 use Rattle.tap_world.specs.Effect.Onward.{Goes}
-use Rattle.tap_world.specs.Guests.{Guest, Vhost, turn_of}
-use Rattle.tap_world.specs.Setup.{Setup}
+use Rattle.tap_world.specs.Guests.{Guest, Vhost}
 use Rattle.tap_world.specs.StepTurns.{end_told, kind_of, left, over_told, rx_effect, rx_onward, rx_over, rx_state}
 use Rattle.tap_world.specs.World as come
 use Rattle.vhost_step.specs.Receive.{rx_did}
@@ -33,8 +31,8 @@ use Rattle.vring_turns.specs.declared.stage.RxStage.{RxStage}
 use Rattle.vring_turns.specs.declared.stage.RxStage.TheVariants as rx
 use Rattle.vring_turns.specs.RxTurn.{RxTurn, rx_report}
 use Rattle.core_shared.specs.Asking.{Asking, setup}
-use Rattle.core_shared.specs.Coming.{come_of, onward_of, rx_turn_in, tx_turn_in, written_out}
-use Rattle.core_shared.specs.Did.{Did, HasEffect, TurnsStay}
+use Rattle.core_shared.specs.Coming.{come_of, onward_of, rx_turn_in, written_out}
+use Rattle.core_shared.specs.Did.{Did, HasEffect}
 use Rattle.core_shared.specs.Held.{IsHeld}
 use Rattle.core_shared.specs.Suiting.{SuitsOn}
 use Rattle.core_shared.specs.Worlds.{vhosts_of, world_in}
@@ -45,7 +43,9 @@ use Rattle.core_shared.specs.declared.onward.Onward.TheVariants as on
 use Rattle.core_shared.specs.declared.shared.Shared.{Shared}
 use Rattle.core_receive.specs.Going.{AreSent, turn_goes}
 use Rattle.core_receive.specs.Moved.{told_to, with_turn_made}
-use Rattle.core_receive.proofs.Lists.{at_either, at_with, lies_still, vhosts_with}
+use Rattle.guest_mem.specs.declared.region.Region.{Region}
+use Rattle.core_shared.proofs.Kit.{with_at_here}
+use Rattle.core_shared.proofs.Leaving.{RxMay, guest_left, held_both, no_more, same_tx, turns_of_one, vhost_left}
 
 -- ---- the end of a turn
 
@@ -112,78 +112,7 @@ goes_so : (a : Asking) (vhost file : ℕ) (f : Found) (o : Option End) (t : RxTu
 goes_so a vhost file f None t next h = goes_on a vhost file f t next h
 goes_so a vhost file f (Some e) t next h = ends_by a vhost file f e t next (end_told e) refl h
 
--- ---- what always holds
-
--- what is left of vhosts and guests lies where it lay
-vhosts_lie :
-    (s : Setup) (old : Shared) (vhost : ℕ) (side new : Side) (guest made : Guest)
-    → IsHeld s old → at old.vhosts vhost ≡ Some side → at old.guests side.vhost.guest ≡ Some guest
-    → made.memory.regions ≡ guest.memory.regions → new.vhost.guest ≡ side.vhost.guest → IsIn made.memory.regions new
-    → (n : ℕ) (v : Side) → at (with_at vhost new old.vhosts) n ≡ Some v
-    → IfSome (at (with_at side.vhost.guest made old.guests) v.vhost.guest) (λ (g : Guest). IsIn g.memory.regions v)
-vhosts_lie s old vhost side new guest made held is_side is_guest same its within n v is =
-    ⊎_elim here there (at_either old.vhosts vhost n new)
-  where
-    Lies : Side → Type 0
-    Lies x = IfSome (at (with_at side.vhost.guest made old.guests) x.vhost.guest) (λ (g : Guest). IsIn g.memory.regions x)
-
-    guest_at : at (with_at side.vhost.guest made old.guests) new.vhost.guest ≡ Some made
-    guest_at = ap (λ (k : ℕ). at (with_at side.vhost.guest made old.guests) k) its
-        ∙ at_with old.guests side.vhost.guest guest made is_guest
-
-    its_own : Lies new
-    its_own = subst (λ (o : Option Guest). IfSome o (λ (g : Guest). IsIn g.memory.regions new)) (sym guest_at) within
-
-    here : n ≡ vhost → Lies v
-    here e = subst Lies (some_same new v
-        (sym (at_with old.vhosts vhost side new is_side)
-        ∙ ap (λ (k : ℕ). at (with_at vhost new old.vhosts) k) (sym e) ∙ is)) its_own
-
-    there : at (with_at vhost new old.vhosts) n ≡ at old.vhosts n → Lies v
-    there e = lies_still old.guests side.vhost.guest v.vhost.guest guest made v is_guest same
-        (held.vhosts n v (sym e ∙ is))
-
--- ---- turns of others
-
-turns_stay :
-    (actor vhost : ℕ) (vhosts : List (Option Side)) (side new : Side)
-    → at vhosts vhost ≡ Some side
-    → ((other : ℕ) → side.vhost.rx_turn ≡ Some other → other ≡ actor)
-    → new.tx ≡ side.tx
-    → TurnsStay actor vhosts (with_at vhost new vhosts)
-turns_stay actor vhost vhosts side new is_side own tx =
-    record { rx = rx_stays; tx = λ n other v is holds differs. tx_stays n }
-  where
-    tx_stays : (n : ℕ) → tx_turn_in (with_at vhost new vhosts) n ≡ tx_turn_in vhosts n
-    tx_stays n = ⊎_elim
-        (λ e. ap (λ (k : ℕ). tx_turn_in (with_at vhost new vhosts) k) e
-        ∙ ap (λ (o : Option Side). o >>= (λ v. option_map (λ w. w.turn) v.tx)) (at_with vhosts vhost side new is_side)
-        ∙ ap (λ o. option_map (λ w. w.turn) o) tx
-        ∙ sym (ap (λ (o : Option Side). o >>= (λ v. option_map (λ w. w.turn) v.tx)) is_side)
-        ∙ sym (ap (λ (k : ℕ). tx_turn_in vhosts k) e))
-        (λ e. ap (λ (o : Option Side). o >>= (λ v. option_map (λ w. w.turn) v.tx)) e)
-        (at_either vhosts vhost n new)
-
-    rx_stays : (n other : ℕ) (v : Side) → at vhosts n ≡ Some v → turn_of 0 v.vhost ≡ Some other → (other == actor) ≡ false
-        → rx_turn_in (with_at vhost new vhosts) n ≡ rx_turn_in vhosts n
-    rx_stays n other v is holds differs = ⊎_elim
-        (λ e.
-        let same : v ≡ side = some_same v side (sym is ∙ ap (λ (k : ℕ). at vhosts k) e ∙ is_side) in
-        let its : other ≡ actor = own other (ap (λ (x : Side). x.vhost.rx_turn) (sym same) ∙ holds) in
-        absurd (true≢false (sym (itself actor) ∙ ap (λ (k : ℕ). k == actor) (sym its) ∙ differs)))
-        (λ e. ap (λ (o : Option Side). o >>= (λ x. option_map (λ w. w.turn) x.rx)) e)
-        (at_either vhosts vhost n new)
-
 -- ---- the event
-
--- the world's guest with the memory and the step that are told to it
-guests_left :
-    (a : Asking) (vhost n : ℕ) (act : Act) (memory : Contents) (guests : List (Option Guest)) (g : Guest)
-    → at guests n ≡ Some g
-    → guests_after a.actor a.number (OnGuest n memory (kind_of vhost 0 act)) guests
-    ≡ Some (with_at n (told_to a vhost act memory g) guests)
-guests_left a vhost n act memory guests g is =
-    ap (λ (o : Option Guest). o >>= (λ h. Some (with_at n (told_to a vhost act memory h) guests))) is
 
 -- a file's change and a turn's step are the event that they are
 pub made :
@@ -208,12 +137,12 @@ made a d kind h vhost file t act over files old next side new guest memory chang
       effect = the_effect;
       has = has end.told end.is_told;
       left = record {
-        ops = sym (append-nil old.ops.ops);
+        ops = no_more old.ops.ops;
         files = is_files;
-        guests = guests_left a vhost side.vhost.guest act memory old.guests guest is_guest;
-        vhosts = ap (λ (v : Vhost). with_at vhost v (vhosts_of old.vhosts)) is_left ∙ vhosts_with old.vhosts vhost new;
-        hosted = sym (append-nil old.hosted.items);
-        dropped = sym (append-nil old.dropped.items);
+        guests = guest_left a.actor a.number side.vhost.guest memory (kind_of vhost 0 act) old.guests guest is_guest;
+        vhosts = ap (λ (v : Vhost). with_at vhost v (vhosts_of old.vhosts)) is_left ∙ vhost_left vhost new old.vhosts;
+        hosted = no_more old.hosted.items;
+        dropped = no_more old.dropped.items;
         writer = refl;
         phase = refl;
       };
@@ -221,11 +150,10 @@ made a d kind h vhost file t act over files old next side new guest memory chang
       held = record {
         table = held.table;
         frames = sent;
-        vhosts = vhosts_lie (setup a) old vhost side new guest (told_to a vhost act memory guest) held is_side is_guest same
-            (ap (λ (v : Vhost). v.guest) steps.vhost) within;
+        vhosts = both.vhosts;
       };
       suits = end.suits (with_at vhost new old.vhosts) worker is_command;
-      stay = turns_stay a.actor vhost old.vhosts side new is_side own (ap (λ (s : Side). s.tx) steps.only);
+      stay = turns_of_one a.actor vhost side new old.vhosts is_side no_other (same_tx a.actor side new (ap (λ (s : Side). s.tx) steps.only));
     } where
       over_is : over ≡ option_map (rx_report steps.turn) (rx_over steps.turn.stage)
       over_is = steps.did ∙ did_over steps.turn.stage steps.turn
@@ -246,5 +174,16 @@ made a d kind h vhost file t act over files old next side new guest memory chang
 
       worker : rx_turn_in (with_at vhost new old.vhosts) vhost
           ≡ (if is_some (rx_over steps.turn.stage) then None else Some steps.turn)
-      worker = ap (λ (o : Option Side). o >>= (λ v. option_map (λ w. w.turn) v.rx)) (at_with old.vhosts vhost side new is_side)
+      worker = ap (λ (o : Option Side). o >>= (λ v. option_map (λ w. w.turn) v.rx)) (with_at_here vhost new side old.vhosts is_side)
           ∙ steps.worker ∙ ap (λ (b : Bool). if b then None else Some steps.turn) same_over
+
+      both : IsHeld (setup a) (record old {
+        guests = with_at side.vhost.guest (told_to a vhost act memory guest) old.guests;
+        vhosts = with_at vhost new old.vhosts;
+      })
+      both = held_both (setup a) old vhost side new guest (told_to a vhost act memory guest) held is_side is_guest
+          (ap (λ (v : Vhost). v.guest) steps.vhost) same (subst (λ (rs : List Region). IsIn rs new) same within)
+
+      no_other : RxMay a.actor side new
+      no_other other its differs =
+          absurd (true≢false (sym (itself a.actor) ∙ ap (λ (k : ℕ). k == a.actor) (sym (own other its)) ∙ differs))

@@ -6,7 +6,7 @@ use Rattle.vhost_dev.specs.Settings.{ring_of}
 use Rattle.core_receive.specs.Moved.{Moved}
 use Rattle.core_receive.specs.Ready.{begun_on}
 use Rattle.core_receive.proofs.Begun.{began}
-use Rattle.core_receive.proofs.Lists.{map_ok}
+use Rattle.core_receive.proofs.Results.{map_ok}
 use Rattle.core_receive.proofs.first.begin.Goals as goal
 
 pub returns : goal.returns

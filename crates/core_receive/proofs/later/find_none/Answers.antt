@@ -7,7 +7,7 @@ use Rattle.core_receive.specs.Going.{turn_goes}
 use Rattle.core_receive.specs.Moved.{Moved}
 use Rattle.core_receive.proofs.Handed.{found_none}
 use Rattle.core_receive.proofs.Known.{file_is_there, known}
-use Rattle.core_receive.proofs.Lists.{map_ok}
+use Rattle.core_receive.proofs.Results.{map_ok}
 use Rattle.core_receive.proofs.later.find_none.Goals as goal
 
 pub side-requires : goal.side-requires

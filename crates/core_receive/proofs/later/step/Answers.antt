@@ -1,6 +1,6 @@
 use Rattle.std.proofs.Common.{is_some, sym, ap, ◌∙◌}
 use Rattle.core_receive.proofs.Known.{known, asks_as}
-use Rattle.core_receive.proofs.Lists.{map_ok}
+use Rattle.core_receive.proofs.Results.{map_ok}
 use Rattle.core_receive.proofs.Stepped.{did, found_is, is_found, is_there, may_go_so}
 use Rattle.core_receive.proofs.later.step.Goals as goal
 

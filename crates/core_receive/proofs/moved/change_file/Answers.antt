@@ -6,13 +6,14 @@ use Rattle.tap_world.specs.Effect.{files_after}
 use Rattle.tap_world.specs.LineSteps.Change.{Leaves, PutsBack}
 use Rattle.vhost_step.specs.declared.went.Went.{Went}
 use Rattle.core_receive.specs.Going.{ComesSent, MayGoSo, file_change}
-use Rattle.core_receive.proofs.Changing.{files_changed, sent_same, sent_set}
+use Rattle.core_shared.proofs.Leaving.{file_left}
+use Rattle.core_receive.proofs.Changing.{sent_same, sent_set}
 use Rattle.core_receive.proofs.moved.change_file.Goals as goal
 
 pub returns-in-Back-clause-files : goal.returns-in-Back-clause-files
 returns-in-Back-clause-files c =
     ap (λ (w : Went). files_after (file_change c.args.vhost c.args.file w) (files_of c.args.files.now)) c.in-Back.is
-    ∙ files_changed c.args.files.now c.args.file (PutsBack c.args.vhost) c.side_mut.result.now c.put_back.new.self
+    ∙ file_left c.args.file (PutsBack c.args.vhost) c.args.files.now c.side_mut.result.now c.put_back.new.self
     c.side_mut.ensures.value c.put_back.ensures.file
 
 pub returns-in-Back-clause-sent : goal.returns-in-Back-clause-sent
@@ -28,7 +29,7 @@ returns-in-Back-clause-sent c s sent comes =
 pub returns-in-Out-clause-files : goal.returns-in-Out-clause-files
 returns-in-Out-clause-files c =
     ap (λ (w : Went). files_after (file_change c.args.vhost c.args.file w) (files_of c.args.files.now)) c.in-Out.is
-    ∙ files_changed c.args.files.now c.args.file (Leaves (Some c.args.vhost) c.in-Out.fate) c.side_mut-in-Out.result.now
+    ∙ file_left c.args.file (Leaves (Some c.args.vhost) c.in-Out.fate) c.args.files.now c.side_mut-in-Out.result.now
     c.leave_from_hand.new.self c.side_mut-in-Out.ensures.value c.leave_from_hand.ensures.file
 
 pub returns-in-Out-clause-sent : goal.returns-in-Out-clause-sent
