@@ -1,0 +1,9 @@
+mod Lists
+mod Changing
+mod Fronting
+mod Made
+mod Rows
+mod Known
+mod Stepped
+mod Handed
+mod Begun
