@@ -37,8 +37,9 @@ fn back_refusal(table: &Steer, vhost: u16, ring: u16, file: Option<u16>) -> Opti
     }
 }
 
-/// `backend`: the command looks at the table. Unless that refuses it, it holds the writer and its ring's turn from now
-/// on, and goes on to its call in any case.
+/// `backend`: the command looks at the table, while nobody holds the writer and the ring's turn. Unless the table refuses
+/// it, it holds the writer from now on, and its ring's turn, where there is such a ring. It goes on to its call in any
+/// case.
 pub fn begin_back(
     shared: &mut Shared,
     asked: &Asked<'_>,
@@ -151,6 +152,10 @@ fn come_to(vhost: u16, ring: u16, asked: Option<u16>, file: u16) -> Doing
 /// A backend is set in its ring, or unset, or the command ends with a refusal, the table's among them, or because
 /// there was none to unset. It then gives back what it holds. A set one goes on to its publication, and an unset one to
 /// the file's owner where its ring receives, else to its publication.
+///
+/// # Errors
+///
+/// Only where memory runs out.
 pub fn drive_back(
     shared: &mut Shared,
     asked: &Asked<'_>,

@@ -12,6 +12,10 @@ use tap_guests::callers_meet_no_worker;
 
 /// `features`, `vnum`, `vbase`, `vaddr`, `getbase`, `drive`, `postin`, `postout` and `harvest`: one call of this vhost's
 /// control or of a driver of it. It is the command's only event.
+///
+/// # Errors
+///
+/// Only where memory runs out.
 pub fn call(
     shared: &mut Shared,
     alloc: Global,
@@ -26,6 +30,7 @@ pub fn call(
     let side = shared.vhosts.side_mut(vhost);
     side.is_sound();
     let guest = shared.guests.guest_mut(side.guest());
+    // The command is one of the nine, so the call is made.
     let called = side
         .call(alloc, asked.command(), guest.memory_mut())?
         .unwrap();

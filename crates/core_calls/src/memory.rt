@@ -12,6 +12,10 @@ use tap_trace::Kind;
 
 /// `poke`: writes these bytes to a guest's memory from an address on, or tells the first address that isn't there. It
 /// is the command's only event.
+///
+/// # Errors
+///
+/// Only where memory runs out.
 pub fn poke(
     shared: &mut Shared,
     asked: &Asked<'_>,
@@ -34,6 +38,10 @@ pub fn poke(
 
 /// `peek`: reads `len` bytes of a guest's memory from an address on, or tells the first address that isn't there. It is
 /// the command's only event.
+///
+/// # Errors
+///
+/// Only where memory runs out.
 pub fn peek(
     shared: &mut Shared,
     alloc: Global,

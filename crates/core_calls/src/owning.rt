@@ -10,8 +10,8 @@ use core_shared::{Asked, Doing, Onward, Shared};
 use tap_trace::Answer;
 use tap_world::Found;
 
-/// The receive worker of a vhost owns the file from now on, whose backend was published as this version. The command
-/// ends with it, and gives back the writer and its ring's turn.
+/// The file's backend was published as this version; the receive worker of the vhost owns the file from now on. The
+/// command ends with that version, and gives back the writer and its ring's turn.
 pub fn own(shared: &mut Shared, asked: &Asked<'_>, vhost: u16, file: u16, version: u64) -> Onward
     requires may { MayGo asked.now (doing.Owns vhost file version) shared.old }
     ensures went { Went asked.now (doing.Owns vhost file version) shared.old shared.new result }

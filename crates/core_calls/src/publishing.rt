@@ -27,6 +27,10 @@ pub(crate) fn side_of(ring: u16) -> Side
 
 /// A file that was set as a ring's backend is the table's from now on. A receive ring's command goes on to the file's
 /// owner; a transmit ring's ends, and gives back the writer and its ring's turn.
+///
+/// # Errors
+///
+/// Only where memory runs out.
 pub fn publish_back(
     shared: &mut Shared,
     asked: &Asked<'_>,
@@ -97,6 +101,10 @@ fn publish_unset(
 
 /// A file that was given back by a receive ring is no such ring's backend any more. The command ends, and gives back
 /// the writer and its ring's turn.
+///
+/// # Errors
+///
+/// Only where memory runs out.
 pub fn publish_disowned(
     shared: &mut Shared,
     asked: &Asked<'_>,
@@ -111,6 +119,10 @@ pub fn publish_disowned(
 
 /// A file that was taken off a transmit ring is no such ring's backend any more. The command ends, and gives back the
 /// writer and its ring's turn.
+///
+/// # Errors
+///
+/// Only where memory runs out.
 pub fn publish_released(
     shared: &mut Shared,
     asked: &Asked<'_>,

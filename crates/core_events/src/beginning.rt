@@ -23,6 +23,7 @@ pub(crate) fn begin(
     ensures went { IfOk result (λ on. Went asked.now doing.Begun shared.old shared.new on) }
 {
     match asked.command() {
+        // Each of these has an operation.
         Command::SetIff { .. }
         | Command::SetQueue { .. }
         | Command::Close { .. }
@@ -33,11 +34,11 @@ pub(crate) fn begin(
         | Command::Tick { .. }
         | Command::Resize { .. } => Ok(begin_change(shared, asked, op_of(asked).unwrap())),
         Command::Send { name, hdr, bytes } => {
-            begin_send(alloc, shared, asked, *name, *hdr, bytes.as_slice())
+            begin_send(shared, alloc, asked, *name, *hdr, bytes.as_slice())
         }
         Command::Read { file, room } => Ok(begin_read(shared, asked, *file, *room)),
         Command::Write { file, bytes } => {
-            begin_write(alloc, shared, asked, *file, bytes.as_slice())
+            begin_write(shared, alloc, asked, *file, bytes.as_slice())
         }
         Command::Features { vhost, .. }
         | Command::VNum { vhost, .. }

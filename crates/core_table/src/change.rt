@@ -73,7 +73,8 @@ fn course(table: &Steer, op: Op) -> Doing
     }
 }
 
-/// A change of the table alone is published: the command ends with its version, and gives back the writer.
+/// A change of the table alone, whose actor holds the writer, is published: the command ends with its version, and gives
+/// back the writer.
 ///
 /// # Errors
 ///
@@ -85,7 +86,8 @@ pub fn publish_change(shared: &mut Shared, asked: &Asked<'_>, op: Op) -> Result<
     publish_last(shared, asked, op)
 }
 
-/// An attach whose gate is open is published: the command ends with its version, and gives back the writer.
+/// An attach whose gate is open, and whose actor holds the writer, is published: the command ends with its version, and
+/// gives back the writer.
 ///
 /// # Errors
 ///

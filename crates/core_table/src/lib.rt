@@ -5,6 +5,12 @@
 //! ([`begin_read`], [`begin_write`]). A publication gives the table one more operation: a command's own
 //! ([`publish_change`], [`publish_attach`], [`publish_detach`]), or the flow of a frame that was written ([`learn`]),
 //! once the host has it ([`host`]). [`op_of`] is the operation of a command.
+//!
+//! Each function asks that the event may be done (`core_shared/specs/MayDo.antt`), and promises that it was done
+//! (`core_shared/specs/Did.antt`). A resize is published by `core_rings`, behind its cuts.
+//!
+//! Where memory runs out nothing is promised of what actors share, and the run is given up; a frame that was passed in is
+//! ended then.
 #![tactic(auto)]
 
 mod bad;

@@ -21,15 +21,15 @@ use tap_trace::Answer;
 use tap_world::Found;
 
 /// The first look of a send to a device: of bytes behind a header of ten bytes, or without one. It ends where they are
-/// no frame, and where the frame has no row at the device, or the filter drops it. Else the frame is cut as the filter
-/// says, and has the row of a file under an epoch.
+/// no frame; where the frame has no row at the device, or the filter drops it, its name is dropped. Else the frame is cut
+/// as the filter says, and has the row of a file under an epoch.
 ///
 /// # Errors
 ///
 /// Only where memory runs out.
 pub fn begin_send(
-    alloc: Global,
     shared: &mut Shared,
+    alloc: Global,
     asked: &Asked<'_>,
     device: u16,
     hdr: Option<Hdr>,

@@ -26,8 +26,8 @@ use tap_world::Found;
 ///
 /// Only where memory runs out.
 pub fn begin_write(
-    alloc: Global,
     shared: &mut Shared,
+    alloc: Global,
     asked: &Asked<'_>,
     file: u16,
     bytes: &[u8],
