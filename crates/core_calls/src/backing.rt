@@ -37,9 +37,9 @@ fn back_refusal(table: &Steer, vhost: u16, ring: u16, file: Option<u16>) -> Opti
     }
 }
 
-/// `backend`: the command looks at the table, while nobody holds the writer and the ring's turn. Unless the table refuses
-/// it, it holds the writer from now on, and its ring's turn, where there is such a ring. It goes on to its call in any
-/// case.
+/// `backend`: the command looks at the table, while nobody holds the writer and the ring's turn. Unless the table
+/// refuses it, it holds the writer from now on, and its ring's turn, where there is such a ring. It goes on to its call
+/// in any case.
 pub fn begin_back(
     shared: &mut Shared,
     asked: &Asked<'_>,

@@ -6,8 +6,8 @@
 //! `tap_world/specs/StepControl.antt` and `tap_world/specs/StepBackend.antt`. A command on a backend that the table
 //! doesn't refuse holds the writer and its ring's turn from its look on; its last event gives both back.
 //!
-//! Where memory runs out nothing is promised of what actors share, and the run is given up; a frame that was passed in is
-//! ended then.
+//! Where memory runs out nothing is promised of what actors share, and the run is given up; a frame that was passed in
+//! is ended then.
 #![tactic(auto)]
 
 mod backing;

@@ -9,8 +9,8 @@
 //! Each function asks that the event may be done (`core_shared/specs/MayDo.antt`), and promises that it was done
 //! (`core_shared/specs/Did.antt`). A resize is published by `core_rings`, behind its cuts.
 //!
-//! Where memory runs out nothing is promised of what actors share, and the run is given up; a frame that was passed in is
-//! ended then.
+//! Where memory runs out nothing is promised of what actors share, and the run is given up; a frame that was passed in
+//! is ended then.
 #![tactic(auto)]
 
 mod bad;
