@@ -73,8 +73,8 @@ fn course(table: &Steer, op: Op) -> Doing
     }
 }
 
-/// A change of the table alone, whose actor holds the writer, is published: the command ends with its version, and gives
-/// back the writer.
+/// A change of the table alone, whose actor holds the writer, is published: the command ends with its version, and
+/// gives back the writer.
 ///
 /// # Errors
 ///
