@@ -83,6 +83,13 @@ impl Actors {
         Ok(actors)
     }
 
+    /// How many there are.
+    pub fn len(&self) -> usize
+        ensures { result ≡ length self.now }
+    {
+        self.items.len()
+    }
+
     /// The actors, the first one first.
     pub fn items(&self) -> &[Actor]
         ensures { result.now ≡ self.now }

@@ -1,0 +1,13 @@
+mod Kit
+mod Reaching
+mod Leading
+mod Counting
+mod Beginning
+mod Carrying
+mod Finishing
+mod Firsts
+mod Settling
+mod Making
+mod OfKind
+mod Ready
+mod Applied

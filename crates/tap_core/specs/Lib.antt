@@ -1,0 +1,5 @@
+pub mod Running
+pub mod Kept
+pub mod Telling
+pub mod Carried
+pub mod Applying
