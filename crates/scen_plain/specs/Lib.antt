@@ -1,0 +1,3 @@
+pub mod PlainRun
+pub mod Reads
+pub mod Chosen
