@@ -1,5 +1,5 @@
 -- What the ways of a run say of its status.
-use Rattle.std.proofs.Common.{◌≡◌, ℕ, ◌<◌, ◌≤◌, ◌⊎◌, inl, inr, ltb, List, ◌++◌, length, Bool, true, false, Option, Some, None, Result, Ok, Err, refl, sym, ap, subst, ◌∙◌, arith}
+use Rattle.std.proofs.Common.{◌≡◌, ℕ, ◌<◌, ◌≤◌, ◌⊎◌, inl, inr, ltb, List, ◌++◌, length, Bool, true, false, Option, Some, None, Ok, Err, refl, sym, ap, subst, ◌∙◌, arith}
 use Rattle.std.proofs.lemmas.Bool.{lt-ltb}
 use Rattle.std.proofs.lemmas.List.{append-nil, length-append}
 use Rattle.std.specs.Io.KnownBytes.{Consumes, IsAtEnd}
@@ -8,27 +8,19 @@ use Rattle.scen_text.specs.declared.fault.ScenFault.{ScenFault}
 use Rattle.scen_text.specs.declared.scenario.Scenario.{Scenario}
 use Rattle.scen_words.specs.declared.limits.TheConstants.{MAX_BYTES}
 use Rattle.scen_text.specs.Refusals.{Said, said_of}
-use Rattle.scen_text.specs.Scenario.{IsRefusal, Stands, scenario_of}
+use Rattle.scen_text.specs.Scenario.{IsRefusal, Stands}
 use Rattle.tap_top.specs.Course.{Course}
 use Rattle.tap_top.specs.Course.Course.{NoMemory, Replied, SourceFailed}
 use Rattle.tap_top.specs.Course.IsSent.{Failed, Lost, OutOfMemory, Whole}
-use Rattle.tap_top.specs.Output.{run_of}
-use Rattle.tap_trace.specs.declared.trace.Trace.{Trace}
-use Rattle.tap_top.specs.Top.{Answers, Ended, IsReply, IsWanted, Reads, Sink, Source, Tells, WritesLine, plain_status, reads, reads_input, served, status_for, usage_line}
+use Rattle.tap_top.specs.Top.{Answers, Ended, IsReply, IsWanted, Reads, Sink, Source, Tells, WritesLine, IsGood, reads, reads_input, served, usage_line}
+use Rattle.tap_top.specs.Top.IsGood.{Making, Standing}
 use Rattle.tap_top.specs.Top.IsReply.{Good, Made, Refused}
 use Rattle.tap_top.specs.Top.IsWanted.{Reply, Usage}
 use Rattle.tap_top.specs.Top.Reads.{Input, Untouched}
 use Rattle.tap_words.specs.declared.request.Request.{Request}
-use Rattle.tap_words.specs.declared.request.Request.TheVariants.{Gen, Plain}
+use Rattle.tap_words.specs.declared.request.Request.TheVariants.{Gen}
 
 -- ---- one status is wanted
-
-same_said : (x y : Said) (a : Result Said ScenFault) → a ≡ Ok x → a ≡ Ok y → x ≡ y
-same_said x y a p q = cc
-
--- a text stands for one scenario
-one_scenario : (input : List ℕ) (s t : Scenario) → Stands input s → Stands input t → s ≡ t
-one_scenario input s t p q = p.2 ∙ ap scenario_of (same_said p.0 q.0 (said_of input) p.1 q.1) ∙ sym q.2
 
 no_fault : (fault : ScenFault) → None ≡ Some fault → ⊥
 no_fault fault e = cc
@@ -62,8 +54,7 @@ one_request q r e = cc
 
 one_reply : (q r : Request) (input : List ℕ) (s t : ℕ) (x y : List ℕ) → reads q ≡ true → q ≡ r → IsReply q input s x → IsReply r input t y → s ≡ t
 one_reply q r input s t x y does same (Good reading scenario stands h a e) (Good too other good k b d) =
-    e ∙ ap (λ (z : Request). status_for z scenario) same
-    ∙ ap (λ (z : Scenario). status_for r z) (one_scenario input scenario other stands good) ∙ sym d
+    e ∙ sym d
 one_reply q r input s t x y does same (Good reading scenario stands h a e) (Refused too fault refusal b d) = absurd (good_or_refused input scenario fault stands refusal)
 one_reply q r input s t x y does same (Good reading scenario stands h a e) (Made count is b d) = absurd (made_reads q count does (same ∙ is))
 one_reply q r input s t x y does same (Refused reading fault refusal a e) (Good too scenario stands h b d) = absurd (good_or_refused input scenario fault stands refusal)
@@ -122,18 +113,33 @@ one_status words source untouched input bytes s t x y told (Input does took) (Re
     reply_read r q source.left_now input bytes s t x y (reads_served words r true asked does) (one_request r q (sym asked ∙ too))
     (subst (λ (o : Option (List ℕ)). Consumes o source.left_now bytes) (told does) took.to_limit.taken) took.whole z u
 
+-- ---- what is good is done
+
+done_reply : (r : Request) (left : Option (List ℕ)) (input bytes : List ℕ) (s : ℕ) (x : List ℕ) → Consumes (Some input) left bytes
+    → (IsAtEnd left ⊎ (MAX_BYTES < length bytes)) → (scenario : Scenario) → Stands input scenario → IsReply r bytes s x → s ≡ 0
+done_reply r left input bytes s x taken whole scenario stands (Good reading other good h a e) = e
+done_reply r left input bytes s x taken (inl end) scenario stands (Refused reading fault refusal a e) =
+    absurd (good_or_refused bytes scenario fault (subst (λ (i : List ℕ). Stands i scenario) (whole_input left input bytes taken end) stands) refusal)
+done_reply r left input bytes s x taken (inr long) scenario stands (Refused reading fault refusal a e) =
+    absurd (long_not_good input scenario (omega (arith, longer left input bytes taken)) stands)
+done_reply r left input bytes s x taken whole scenario stands (Made count is a e) = e
+
+one_good : (words : List (List ℕ)) (source : Source) (untouched : Type 0) (input bytes : List ℕ) (s : ℕ) (x : List ℕ) → Tells words source input
+    → Reads words source untouched bytes → IsWanted words bytes s x → IsGood words input → s ≡ 0
+one_good words source untouched input bytes s x told read (Usage other a e) (Standing q too reading scenario stands) = absurd (nothing_served q (served words) other too)
+one_good words source untouched input bytes s x told read (Usage other a e) (Making count too) = absurd (nothing_served (Gen count) (served words) other too)
+one_good words source untouched input bytes s x told (Untouched doesnt same) (Reply r asked z) (Standing q too reading scenario stands) =
+    absurd (not_both (reads q) reading (reads_served words q false too doesnt))
+one_good words source untouched input bytes s x told (Input does took) (Reply r asked z) (Standing q too reading scenario stands) =
+    done_reply r source.left_now input bytes s x (subst (λ (o : Option (List ℕ)). Consumes o source.left_now bytes) (told does) took.to_limit.taken)
+    took.whole scenario stands z
+one_good words source untouched input bytes s x told read (Reply r asked z) (Making count too) =
+    unread_reply r bytes s x (ap reads (one_request r (Gen count) (sym asked ∙ too))) z
+
 -- ---- what is wanted at a status
 
-plain_low : (o : Option Trace) → (plain_status o ≤ 2) × (plain_status o ≡ 1 → ⊥)
-plain_low (Some trace) = (omega arith, λ one. omega arith)
-plain_low None = (omega arith, λ one. omega arith)
-
-status_low : (r : Request) (s : Scenario) → (status_for r s ≤ 2) × (status_for r s ≡ 1 → ⊥)
-status_low (Plain seed json) s = plain_low (run_of s)
-status_low other s = (omega arith, λ one. omega arith)
-
 low_reply : (r : Request) (input : List ℕ) (s : ℕ) (text : List ℕ) → IsReply r input s text → s ≤ 2
-low_reply r input s text (Good reading scenario stands h out e) = let l = (status_low r scenario).0 in omega arith
+low_reply r input s text (Good reading scenario stands h out e) = omega arith
 low_reply r input s text (Refused reading fault refusal out e) = omega arith
 low_reply r input s text (Made count is out e) = omega arith
 
@@ -142,7 +148,7 @@ low words input s text (Usage other a e) = omega arith
 low words input s text (Reply r asked z) = low_reply r input s text z
 
 not_one : (r : Request) (input : List ℕ) (s : ℕ) (text : List ℕ) → IsReply r input s text → s ≡ 1 → ⊥
-not_one r input s text (Good reading scenario stands h out e) one = (status_low r scenario).1 (sym e ∙ one)
+not_one r input s text (Good reading scenario stands h out e) one = omega arith
 not_one r input s text (Refused reading fault refusal out e) one = omega arith
 not_one r input s text (Made count is out e) one = omega arith
 
@@ -197,7 +203,7 @@ ended words source sink untouched silent tame reliable status (SourceFailed r as
   statuses = omega arith;
   unread = λ doesnt. absurd (not_both (reads r) reading (reads_served words r false asked doesnt));
   taken = (fails.bytes, fails.to_limit);
-  complete = λ input text told want calm quiet. absurd (calm fails.fault);
+  complete = λ input told good calm quiet. absurd (calm fails.fault);
 }
 ended words source sink untouched silent tame reliable status (NoMemory bytes well unread same still five) = record {
   done = λ e. absurd (omega arith);
@@ -214,7 +220,7 @@ ended words source sink untouched silent tame reliable status (NoMemory bytes we
   statuses = omega arith;
   unread = λ doesnt. (unread doesnt, λ e. omega arith);
   taken = (bytes, well.to_limit);
-  complete = λ input text told want calm quiet. inr five;
+  complete = λ input told good calm quiet. inr five;
 }
 ended words source sink untouched silent tame reliable status (Replied input text wanted read well want (Whole written is)) =
     let few : wanted ≤ 2 = low words input wanted text want in
@@ -233,7 +239,7 @@ ended words source sink untouched silent tame reliable status (Replied input tex
       statuses = omega arith;
       unread = λ doesnt. (untouched_source words source untouched input read doesnt, λ e. omega arith);
       taken = (well.0, well.1.to_limit);
-      complete = λ i t told other calm quiet. inl (is ∙ one_status words source untouched i input wanted 0 text t told read want other);
+      complete = λ i told good calm quiet. inl (is ∙ one_good words source untouched i input wanted text told read want good);
     }
 ended words source sink untouched silent tame reliable status (Replied input text wanted read well want (Lost breaks bad line is)) =
     let few : wanted ≤ 2 = low words input wanted text want in
@@ -252,7 +258,7 @@ ended words source sink untouched silent tame reliable status (Replied input tex
       statuses = omega arith;
       unread = λ doesnt. (untouched_source words source untouched input read doesnt, λ e. omega arith);
       taken = (well.0, well.1.to_limit);
-      complete = λ i t told other calm quiet. absurd (quiet breaks.fault);
+      complete = λ i told good calm quiet. absurd (quiet breaks.fault);
     }
 ended words source sink untouched silent tame reliable status (Replied input text wanted read well want (Failed breaks bad none is)) =
     record {
@@ -270,7 +276,7 @@ ended words source sink untouched silent tame reliable status (Replied input tex
       statuses = omega arith;
       unread = λ doesnt. (untouched_source words source untouched input read doesnt, λ e. omega arith);
       taken = (well.0, well.1.to_limit);
-      complete = λ i t told other calm quiet. absurd (quiet breaks.fault);
+      complete = λ i told good calm quiet. absurd (quiet breaks.fault);
     }
 ended words source sink untouched silent tame reliable status (Replied input text wanted read well want (OutOfMemory stops is)) =
     record {
@@ -288,5 +294,5 @@ ended words source sink untouched silent tame reliable status (Replied input tex
       statuses = omega arith;
       unread = λ doesnt. (untouched_source words source untouched input read doesnt, λ e. omega arith);
       taken = (well.0, well.1.to_limit);
-      complete = λ i t told other calm quiet. inr is;
+      complete = λ i told good calm quiet. inr is;
     }

@@ -1,8 +1,5 @@
-pub mod Answered
 pub mod Ended
-pub mod Kept
-pub mod Laws
-pub mod Line
 pub mod Passing
 pub mod Counted
 pub mod Built
+pub mod Promised

@@ -12,9 +12,9 @@ use Rattle.scen_text.specs.Scenario.{IsRefusal, Stands}
 use Rattle.scen_text.specs.ScenarioText.{scenario_text}
 use Rattle.scen_gen.specs.Generated.{generated}
 use Rattle.tap_ground.specs.Counts.{one_more}
-use Rattle.tap_top.specs.Headline.{InOrder, OneFate}
-use Rattle.tap_top.specs.OneFile.{OneFile, one_file_of}
-use Rattle.tap_top.specs.Output.{output_of, run_of}
+use Rattle.scen_plain.specs.PlainRun.{IsPlainRun}
+use Rattle.tap_top.specs.Headline.{Headline}
+use Rattle.tap_top.specs.Output.{output_of}
 use Rattle.tap_trace.specs.declared.trace.Trace.{Trace}
 use Rattle.tap_words.specs.Words.{asks}
 use Rattle.tap_words.specs.declared.request.Request.{Request}
@@ -60,10 +60,6 @@ usage_line =
 abbrev pub refusal_line : ScenFault → List ℕ
 refusal_line fault = line (refused_fields fault)
 
--- `refused 0 15`, this program's own: a good scenario that isn't run so far
-unfoldable pub not_built_line : List ℕ
-not_built_line = codes "refused 0 15" ++ 10 ∷ []
-
 -- ---- what is wanted of a good scenario
 
 abbrev pub command_count : List Phase → ℕ
@@ -78,41 +74,32 @@ count_line n = line (codes "ok" ∷ decimal n ∷ [])
 abbrev pub upgraded : Scenario → Scenario
 upgraded s = record s { version = 2 }
 
--- the trace of a run, where there is one, with its report behind it
-abbrev pub plain_text : Bool → Scenario → Option Trace → List ℕ
-plain_text json s (Some trace) = output_of json s trace
-plain_text json s None = not_built_line
+-- The text of a plain run: the trace of the run that the seed picks, and the report of that trace.
+pub record PlainText (json : Bool) (seed : ℕ) (s : Scenario) (text : List ℕ) : Type 0 where
+  pub trace : Trace
+  pub run : IsPlainRun s seed trace
+  pub written : text ≡ output_of json s trace
 
-abbrev pub plain_status : Option Trace → ℕ
-plain_status (Some trace) = 0
-plain_status None = 2
-
--- the text for a scenario, and its status
-abbrev pub text_for : Request → Scenario → List ℕ
-text_for Check s = count_line (command_count s.phases)
-text_for (Plain seed json) s = plain_text json s (run_of s)
-text_for Upgrade s = scenario_text (upgraded s)
-text_for unbuilt s = []
-
-abbrev pub status_for : Request → Scenario → ℕ
-status_for (Plain seed json) s = plain_status (run_of s)
-status_for other s = 0
+-- it is the text that is asked for, of a good scenario
+abbrev pub IsText : Request → Scenario → List ℕ → Type 0
+IsText Check s text = text ≡ count_line (command_count s.phases)
+IsText (Plain seed json) s text = PlainText json seed s text
+IsText (Live json) s text = ⊥
+IsText Audit s text = ⊥
+IsText (Gen count) s text = ⊥
+IsText Upgrade s text = text ≡ scenario_text (upgraded s)
 
 -- the text of the scenario that is made for a number of sends
 abbrev pub made_text : ℕ → List ℕ
 made_text count = scenario_text (generated count)
 
--- the headline: in a run on one file each accepted frame has one fate, and frames leave in the order placed
-abbrev pub Headline : Scenario → Type 0
-Headline s = (file : OneFile) → one_file_of s ≡ Some file → OneFate file × InOrder file
-
 -- ---- what is wanted
 
--- what is wanted of an input, with its status: of a good scenario, or at 2 the line of the first refusal; or the text
--- of the generator, whatever the input
+-- what is wanted of an input, with its status: at 0 the text of a good scenario, or at 2 the line of the first refusal;
+-- or the text of the generator, whatever the input
 pub data IsReply (request : Request) (input : List ℕ) (status : ℕ) (text : List ℕ) : Type 0 where
-  Good : reads request ≡ true → (s : Scenario) → Stands input s → Headline s → text ≡ text_for request s
-      → status ≡ status_for request s → IsReply request input status text
+  Good : reads request ≡ true → (s : Scenario) → Stands input s → Headline request s → IsText request s text
+      → status ≡ 0 → IsReply request input status text
   Refused : reads request ≡ true → (fault : ScenFault) → IsRefusal input fault → text ≡ refusal_line fault → status ≡ 2
       → IsReply request input status text
   Made : (count : ℕ) → request ≡ Gen count → text ≡ made_text count → status ≡ 0 → IsReply request input status text
@@ -122,6 +109,12 @@ pub data IsWanted (words : List (List ℕ)) (input : List ℕ) (status : ℕ) (t
   Usage : served words ≡ None → text ≡ usage_line → status ≡ 1 → IsWanted words input status text
   Reply : (request : Request) → served words ≡ Some request → IsReply request input status text
       → IsWanted words input status text
+
+-- it is to be done: a text that stands for a scenario, where such a one is read; or what the generator makes
+pub data IsGood (words : List (List ℕ)) (input : List ℕ) : Type 0 where
+  Standing : (request : Request) → served words ≡ Some request → reads request ≡ true → (s : Scenario) → Stands input s
+      → IsGood words input
+  Making : (count : ℕ) → served words ≡ Some (Gen count) → IsGood words input
 
 -- ---- the source
 
@@ -173,9 +166,9 @@ pub record Writes (sink : Sink) (text : List ℕ) : Type 0 where
   pub written : Appends sink.written sink.written_now text
   pub no_fault : sink.faults_now ≡ sink.faults
 
--- a front of the text was written
+-- a front of the text was written, and something of it is left
 abbrev pub WritesFront : Sink → List ℕ → Type 0
-WritesFront sink text = (n : ℕ) × Appends sink.written sink.written_now (take n text)
+WritesFront sink text = (n : ℕ) × (n < length text) × Appends sink.written sink.written_now (take n text)
 
 -- a front of the text was written, and then one write failed
 pub record Breaks (sink : Sink) (text : List ℕ) : Type 0 where
@@ -232,6 +225,6 @@ pub record Ended (words : List (List ℕ)) (source : Source) (sink : Sink)
   -- at every status: at most one byte more than the limit is taken
   pub taken : (bytes : List ℕ) × TakesToLimit source bytes
   -- what is good is done, where no call fails
-  pub complete : (input text : List ℕ) → Tells words source input → IsWanted words input 0 text
+  pub complete : (input : List ℕ) → Tells words source input → IsGood words input
       → (source.faults_now ≡ one_more source.faults → ⊥) → (sink.faults_now ≡ one_more sink.faults → ⊥)
       → (status ≡ 0) ⊎ (status ≡ 5)

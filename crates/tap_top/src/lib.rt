@@ -1,23 +1,18 @@
 //! The top call of the program: words, bytes in, bytes out, one exit status.
 //!
-//! [`plain_main`] reads a scenario from a source, runs it on one thread, and writes its trace and its report to
-//! a sink. To a contract a run is a fold over the scenario's commands.
+//! [`plain_main`] does what its words ask for: it counts the commands of a scenario, runs it on one thread as a seed
+//! picks and writes the trace and its report, prints it in version 2, or makes a large one by number. Which run a seed
+//! picks is said in `scen_plain`.
 //!
-//! `specs/Run.antt` has that fold and `specs/Output.antt` what is written for it; `specs/Headline.antt` says that
-//! each accepted frame has one fate and that frames leave in the order placed; `specs/Top.antt` has the statuses,
-//! and what is wanted at each. `specs/Engine.antt` and `specs/Course.antt` are of the inside: what is kept of a
-//! line, and the ways a run can take between its two ends.
+//! `specs/Top.antt` has the statuses, and what is wanted at each; `specs/Output.antt` what is written for a trace;
+//! `specs/Headline.antt` what is promised of the run behind it: each accepted frame stands exactly once in the world
+//! that it ends in, frames leave each line in the order placed, and each chain is published used at most once.
+//! `specs/Course.antt` is of the inside: the ways a run of the program can take between its two ends.
 #![tactic(auto)]
 
 mod ends;
-mod engine;
-mod given;
-mod lines;
 mod output;
-mod parts;
-mod placed;
 mod refusal;
-mod running;
 mod serving;
 mod top;
 mod words;

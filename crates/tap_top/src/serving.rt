@@ -1,23 +1,16 @@
-//! What is written for a good scenario.
+//! The text for a good scenario.
 
 ghost use Rattle.std.specs.Prelude.{◌≡◌, ◌+◌, ◌≤◌, true, IfOk, string_bytes};
-ghost use Rattle.tap_top.specs.Output.{run_of};
-ghost use Rattle.tap_top.specs.Serving.{Serves};
-ghost use Rattle.tap_top.specs.Top.{command_count, count_line, is_built, made_text, not_built_line, plain_status, plain_text, reads};
+ghost use Rattle.scen_laid.specs.Laid.{IsLaid};
+ghost use Rattle.tap_top.specs.Top.{IsText, PlainText, command_count, count_line, is_built, made_text, reads};
 
-use crate::output::{output_of, run_of};
+use crate::output::output_of;
 use scen_gen::generate;
+use scen_plain::run_plain;
 use scen_text::{Phase, Scenario, print_scenario, upgrade};
 use std::alloc::{AllocError, Global};
 use std::fmt::Write;
 use tap_words::Request;
-
-/// What is to be written, and the status that goes with it.
-#[derive(Drop)]
-pub struct Reply {
-    pub status: u8,
-    pub text: String,
-}
 
 // A sum, where the machine has as much memory.
 fn sum(first: usize, second: usize) -> Result<usize, AllocError>
@@ -49,44 +42,26 @@ fn count_line(alloc: Global, count: usize) -> Result<String, AllocError>
     Ok(text)
 }
 
-#[tactic(auto, unfolding(crate::specs::Top::not_built_line))]
-fn not_built(alloc: Global) -> Result<String, AllocError>
-    ensures { IfOk result (λ text. string_bytes text ≡ not_built_line) }
+// A run on one thread, as the seed picks.
+fn plain(alloc: Global, json: bool, seed: u64, scenario: &Scenario) -> Result<String, AllocError>
+    requires { IsLaid scenario.now }
+    ensures { IfOk result (λ text. PlainText json seed scenario.now (string_bytes text)) }
 {
-    String::from_str(alloc, "refused 0 15\n")
+    let trace = run_plain(alloc, scenario, seed)?;
+    output_of(alloc, json, scenario, &trace)
 }
 
-// A run on one thread.
-fn plain(alloc: Global, json: bool, scenario: &Scenario) -> Result<Reply, AllocError>
-    ensures text { IfOk result (λ r. string_bytes r.text ≡ plain_text json scenario.now (run_of scenario.now)) }
-    ensures status { IfOk result (λ r. r.status ≡ plain_status (run_of scenario.now)) }
-{
-    let Some(trace) = run_of(alloc, scenario)? else {
-        return Ok(Reply {
-            status: 2,
-            text: not_built(alloc)?,
-        });
-    };
-    let text = output_of(alloc, json, scenario, &trace)?;
-    Ok(Reply { status: 0, text })
-}
-
-/// What is written for a good scenario, where a request is built that reads one.
-pub fn serve(alloc: Global, request: Request, scenario: Scenario) -> Result<Reply, AllocError>
+/// The text for a good scenario, where a request is built that reads one.
+pub fn serve(alloc: Global, request: Request, scenario: Scenario) -> Result<String, AllocError>
     requires built { is_built request ≡ true }
     requires read { reads request ≡ true }
-    ensures { IfOk result (λ r. Serves request scenario (string_bytes r.text) r.status) }
+    requires laid { IsLaid scenario }
+    ensures { IfOk result (λ text. IsText request scenario (string_bytes text)) }
 {
     match request {
-        Request::Check => Ok(Reply {
-            status: 0,
-            text: count_line(alloc, command_count(scenario.phases.as_slice())?)?,
-        }),
-        Request::Upgrade => Ok(Reply {
-            status: 0,
-            text: print_scenario(alloc, &upgrade(scenario))?,
-        }),
-        Request::Plain { json, .. } => plain(alloc, json, &scenario),
+        Request::Check => count_line(alloc, command_count(scenario.phases.as_slice())?),
+        Request::Upgrade => print_scenario(alloc, &upgrade(scenario)),
+        Request::Plain { seed, json } => plain(alloc, json, seed, &scenario),
         Request::Live { .. } => unreachable!(),
         Request::Audit => unreachable!(),
         Request::Gen { .. } => unreachable!(),

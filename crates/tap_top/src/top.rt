@@ -6,15 +6,37 @@ ghost use Rattle.tap_top.specs.Top.{Ended, IsReply, is_built, reads, served, sin
 
 use crate::ends::{ReadError, read_all, write_all};
 use crate::refusal::refusal_line;
-use crate::serving::{Reply, made, serve};
+use crate::serving::{made, serve};
 use crate::words::served;
+use scen_laid::read_is_laid;
+use scen_plain::{plain_runs_are_sound, plain_traces};
 use scen_text::{OrMemory, read_scenario};
 use std::alloc::{AllocError, Global};
 use tap_outside::{Sink, SinkErr, Source};
 use tap_words::Request;
 
+/// The statuses.
+const DONE: u8 = 0;
+
+const USAGE_TOLD: u8 = 1;
+
+const REFUSED: u8 = 2;
+
+const SOURCE_FAILED: u8 = 3;
+
+const SINK_FAILED: u8 = 4;
+
+const OUT_OF_MEMORY: u8 = 5;
+
 const USAGE: &str =
     "usage: tapsim check | plain [--seed N] [--json] | live [--json] | audit | gen N | upgrade\n";
+
+// What is to be written, and the status that goes with it.
+#[derive(Drop)]
+struct Reply {
+    status: u8,
+    text: String,
+}
 
 // The reply to an input, for what is asked.
 fn reply_to(alloc: Global, request: Request, bytes: &[u8]) -> Result<Reply, AllocError>
@@ -22,10 +44,16 @@ fn reply_to(alloc: Global, request: Request, bytes: &[u8]) -> Result<Reply, Allo
     requires read { reads request ≡ true }
     ensures { IfOk result (λ reply. IsReply request bytes.now reply.status (string_bytes reply.text)) }
 {
+    read_is_laid();
+    plain_runs_are_sound();
+    plain_traces();
     match read_scenario(alloc, bytes) {
-        Ok(scenario) => serve(alloc, request, scenario),
+        Ok(scenario) => Ok(Reply {
+            status: DONE,
+            text: serve(alloc, request, scenario)?,
+        }),
         Err(OrMemory::Fault(fault)) => Ok(Reply {
-            status: 2,
+            status: REFUSED,
             text: refusal_line(alloc, fault)?,
         }),
         Err(OrMemory::NoMemory) => Err(AllocError),
@@ -40,8 +68,9 @@ fn send<K: Sink>(sink: &mut K, text: &str, status: u8) -> u8
 {
     match write_all(sink, text.as_bytes()) {
         Ok(()) => status,
-        Err(SinkErr::Failed) => { if status == 0 { 4 } else { status } }
-        Err(SinkErr::NoMemory) => 5,
+        Err(SinkErr::Failed) if status == DONE => SINK_FAILED,
+        Err(SinkErr::Failed) => status,
+        Err(SinkErr::NoMemory) => OUT_OF_MEMORY,
     }
 }
 
@@ -56,12 +85,12 @@ fn replied<S: Source, K: Sink>(alloc: Global, request: Request, source: &mut S, 
 {
     let bytes = match read_all(alloc, source) {
         Ok(bytes) => bytes,
-        Err(ReadError::SourceFailed) => return 3,
-        Err(ReadError::NoMemory) => return 5,
+        Err(ReadError::SourceFailed) => return SOURCE_FAILED,
+        Err(ReadError::NoMemory) => return OUT_OF_MEMORY,
     };
     match reply_to(alloc, request, &bytes) {
         Ok(reply) => send(sink, reply.text.as_str(), reply.status),
-        Err(_) => 5,
+        Err(AllocError) => OUT_OF_MEMORY,
     }
 }
 
@@ -73,13 +102,13 @@ fn course<S: Source, K: Sink>(alloc: Global, words: &[String], source: &mut S, s
 {
     let request = match served(alloc, words) {
         Ok(Some(request)) => request,
-        Ok(None) => return send(sink, USAGE, 1),
-        Err(_) => return 5,
+        Ok(None) => return send(sink, USAGE, USAGE_TOLD),
+        Err(AllocError) => return OUT_OF_MEMORY,
     };
     match request {
         Request::Gen { count } => match made(alloc, count) {
-            Ok(text) => send(sink, text.as_str(), 0),
-            Err(_) => 5,
+            Ok(text) => send(sink, text.as_str(), DONE),
+            Err(AllocError) => OUT_OF_MEMORY,
         },
         request => replied(alloc, request, source, sink),
     }
@@ -90,12 +119,15 @@ fn course<S: Source, K: Sink>(alloc: Global, words: &[String], source: &mut S, s
 ///
 /// | status | where | written |
 /// |---|---|---|
-/// | 0 | done | what is asked for: of a run the trace, then the report, as text or as one line of JSON |
-/// | 1 | the words are in no row of the table, or what they ask for isn't built | the usage line |
+/// | 0 | done | what is asked for |
+/// | 1 | the words aren't `check`, `plain [--seed N] [--json]`, `gen N` or `upgrade` | the usage line |
 /// | 2 | the scenario is refused | `refused LINE WHY` |
 /// | 3 | the source failed | nothing |
-/// | 4 | the sink failed | a front of the text of status 0 |
-/// | 5 | memory ran out | a front of the text or line that would else be written |
+/// | 4 | the sink failed | a front of the text of status 0, and not all of it |
+/// | 5 | memory ran out | nothing, or a front of the text or line that would else be written, and not all of it |
+///
+/// What is asked for is of `check` the line `ok N`, N the number of commands; of `plain` the trace, then the report, as
+/// text or as one line of JSON; of `gen` and `upgrade` a scenario.
 ///
 /// The order is words, reading, scenario, running, writing; status 5 may come in place of any. Where the line of
 /// status 1 or 2 can't be written whole, the status stays and a front of it is written. Bytes are spoken of where

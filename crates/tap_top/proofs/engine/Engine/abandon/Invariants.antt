@@ -1,5 +1,0 @@
-use Rattle.std.specs.VecDeque.{deque_len}
-use Rattle.tap_top.proofs.engine.Engine.abandon.Given as goal
-
-abbrev pub decreases-loop-frame : goal.decreases-loop-frame
-decreases-loop-frame l = deque_len l.waiting
