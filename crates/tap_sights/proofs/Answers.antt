@@ -22,7 +22,7 @@ use Rattle.tap_sights.proofs.Orders.{before_seen, earlier_is_before, now_some, s
 
 -- ---- one answer for each command
 
-same_told_refl : (t u : Told) → t ≡ u → same_told t u ≡ true
+pub same_told_refl : (t u : Told) → t ≡ u → same_told t u ≡ true
 same_told_refl t u e = and_from (t.phase == u.phase && t.actor == u.actor) (t.command == u.command)
     (and_from (t.phase == u.phase) (t.actor == u.actor) (eq-eqb t.phase u.phase (ap (λ (x : Told). x.phase) e)) (eq-eqb t.actor u.actor (ap (λ (x : Told). x.actor) e)))
     (eq-eqb t.command u.command (ap (λ (x : Told). x.command) e))

@@ -29,7 +29,7 @@ pub only_some : {A : Type 0} (b : Bool) (x y : A) → only_if b x ≡ Some y →
 only_some true x y e = (refl, some_same x y e)
 only_some false x y e = absurd (cc (e))
 
-cond_some : {A : Type 0} (b : Bool) (o : Option A) (y : A) → cond b o None ≡ Some y → (b ≡ true) × (o ≡ Some y)
+pub cond_some : {A : Type 0} (b : Bool) (o : Option A) (y : A) → cond b o None ≡ Some y → (b ≡ true) × (o ≡ Some y)
 cond_some true o y e = (refl, e)
 cond_some false o y e = absurd (cc (e))
 
@@ -74,7 +74,7 @@ module _ (c : Case) (s : Sighted c) where
           (subst (λ q. ((s.seen.before a.told).put other ≤ q) × (q < (s.seen.after a.told).put other)) w.1 (h.from, h.to))
       go x h is = absurd (cc (is))
 
-  left_took : (e : EntryAt) (t : Told) (file place : ℕ) → IsTold c t → IsLeft s.seen e → s.seen.taker e ≡ t → e.file ≡ file → e.at.place ≡ place
+  pub left_took : (e : EntryAt) (t : Told) (file place : ℕ) → IsTold c t → IsLeft s.seen e → s.seen.taker e ≡ t → e.file ≡ file → e.at.place ≡ place
       → Took c s.seen t file place
   left_took e t file place told left by on at =
       let from = subst (λ u. (s.seen.before u).out e.file ≤ e.at.place) by left.from in
@@ -86,7 +86,7 @@ module _ (c : Case) (s : Sighted c) where
       }
 
   -- an entry that was read, or copied to a guest
-  read_left : (e : EntryAt) (f : Fate) → TellsFate c s.seen e f → was_read f ≡ true → IsLeft s.seen e
+  pub read_left : (e : EntryAt) (f : Fate) → TellsFate c s.seen e f → was_read f ≡ true → IsLeft s.seen e
   read_left e fate.Read h is = h.left
   read_left e f h is = absurd (cc (is))
 
@@ -133,7 +133,7 @@ module _ (c : Case) (s : Sighted c) where
       places : (f p e l f' p' e' l' : ℕ) → answer.Placed f p e l ≡ answer.Placed f' p' e' l' → p ≡ p'
       places f p e l f' p' e' l' is = cc (is)
 
-  copy_took : (e : EntryAt) → In e c.entries → (x : StepAt) → In x c.steps → (b : Told) → (o : Option Name) → copied x.at.kind ≡ o
+  pub copy_took : (e : EntryAt) → In e c.entries → (x : StepAt) → In x c.steps → (b : Told) → (o : Option Name) → copied x.at.kind ≡ o
       → option_map_or (same_name e.at.name) o false ≡ true → told_of c x.at.command ≡ Some b → Took c s.seen b e.file e.at.place
   copy_took e i x j b None is same told = absurd (true≢false (sym same))
   copy_took e i x j b (Some name) is same told =

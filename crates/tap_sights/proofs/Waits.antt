@@ -19,7 +19,7 @@ use Rattle.tap_legal.specs.Lookups.{claimed_of, declared, is_before, part_of}
 use Rattle.tap_legal.specs.LegalNotReady.{below_fails, f_fails, fits_again, fits_idle, found_none, has_left_below, is_in_line, is_not_placed, is_not_ready, places_of}
 use Rattle.tap_legal.specs.Served.{served_by}
 use Rattle.tap_legal.specs.Takes.{Resized, copiers, cuts_of, cutters, is_taken_after, purgers, readers, waits, was_cut}
-use Rattle.tap_sights.specs.Sight.{In}
+use Rattle.tap_sights.specs.Sight.{In, Seen}
 use Rattle.tap_sights.specs.Tells.{IsNotReady, Tells, TellsRead, TellsTurn}
 use Rattle.tap_sights.specs.LineFacts.{FileTells, IsTold, TellsFate, WasCut}
 use Rattle.tap_sights.specs.Laws.{CutsAreTold}
@@ -28,7 +28,7 @@ use Rattle.tap_sights.proofs.Kit.{all_hold, any_in, both_none, found, passes, in
 use Rattle.tap_sights.proofs.Orders.{told_answer, told_is}
 use Rattle.tap_sights.proofs.Taken.{takers_took}
 
-told_same : (t u : Told) → same_told t u ≡ true → t ≡ u
+pub told_same : (t u : Told) → same_told t u ≡ true → t ≡ u
 told_same t u e =
     let p = and_parts (t.phase == u.phase && t.actor == u.actor) (t.command == u.command) e in
     let q = and_parts (t.phase == u.phase) (t.actor == u.actor) p.0 in
@@ -40,11 +40,11 @@ told_same t u e =
     make : (p p' a a' n n' : ℕ) → p ≡ p' → a ≡ a' → n ≡ n' → told p a n ≡ told p' a' n'
     make p p' a a' n n' e f g = ap (λ x. told x a n) e ∙ ap (λ x. told p' x n) f ∙ ap (told p' a') g
 
-module _ (c : Case) (s : Sighted c) (cuts : CutsAreTold c s.seen) where
-  cut_from : (e : EntryAt) (f : Fate) → TellsFate c s.seen e f → was_cut f ≡ true → WasCut c s.seen e
-  cut_from e (fate.Discarded cause.Cut) h is = h
-  cut_from e f h is = absurd (cc (is))
+pub cut_from : (c : Case) (s : Seen) (e : EntryAt) (f : Fate) → TellsFate c s e f → was_cut f ≡ true → WasCut c s e
+cut_from c s e (fate.Discarded cause.Cut) h is = h
+cut_from c s e f h is = absurd (cc (is))
 
+module _ (c : Case) (s : Sighted c) (cuts : CutsAreTold c s.seen) where
   -- who cut what stands at a place hadn't seen that it left
   cutter_from : (e : EntryAt) (b : Told) (k : Bool)
       → In b (cond k (map (λ (r : Resized × List ℕ). r.0.told) (filter (λ (r : Resized × List ℕ). list_any (λ p. p == e.at.place) r.1) (cuts_of c e.file))) [])
@@ -57,7 +57,7 @@ module _ (c : Case) (s : Sighted c) (cuts : CutsAreTold c s.seen) where
       let t = cuts e.file w.0 m.0 r.0 w.1 in
       let d = t.0 in
       let both = and_parts (was_cut d.at.fate) (same_told (s.seen.taker d) m.0.0.told) t.4 in
-      let h = cut_from d d.at.fate (s.lines.each d t.1).fate both.0 in
+      let h = cut_from c s.seen d d.at.fate (s.lines.each d t.1).fate both.0 in
       let by = told_same (s.seen.taker d) m.0.0.told both.1 ∙ m.2 in (
         subst (IsTold c) by (told_is c s.shape h.resize.at.command (s.seen.taker d) h.by),
         subst (λ n. (s.seen.before b).out n ≤ e.at.place) t.2

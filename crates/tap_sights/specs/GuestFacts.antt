@@ -133,9 +133,12 @@ EachGuest c s [] [] = Unit {0}
 EachGuest c s (g ∷ gs) (d ∷ ds) = GuestTells c s g.0 g.1 d × EachGuest c s gs ds
 EachGuest c s gs ds = ⊥
 
+-- The steps are those of the declared guests.
 pub record GuestFacts (c : Case) (s : Seen) : Type 0 where
   pub done : List (List (Act × Done))
   pub guests : EachGuest c s (numbered 0 c.setup.guests) done
+  pub named : (x : StepAt) → In x c.steps
+      → (g : ℕ × List Region) × In g (numbered 0 c.setup.guests) × (g.0 ≡ x.guest)
   pub steps : (guest i : ℕ) (x : StepAt) → slice_get (filter (λ (y : StepAt). y.guest == guest) c.steps) i ≡ Some x
       → StepIsSeen c s guest i x
   pub copies : (x : StepAt) (name : Name) → In x c.steps → copied x.at.kind ≡ Some name → CopyTells c s x name

@@ -111,12 +111,13 @@ pub record IsGone (c : Case) (s : Seen) (a : AnswerAt) (file want found : ℕ) (
   pub opens_now : opening.at.version ≤ s.until a.told
   pub opens : attaches_it c file found opening ≡ true
 
--- what the ring said
+-- what the ring said; a frame that it gave was sent
 abbrev pub TellsRing : Case → Seen → AnswerAt → Answer → Type 0
 TellsRing c s a (answer.Placed file place epoch len) = IsPut c s a file place epoch len
 TellsRing c s a (answer.Dropped (Some file) (cause.Full k d)) = IsFull c s a file k d
 TellsRing c s a (answer.Dropped (Some file) (cause.Spent k)) = IsSpent s a file k
 TellsRing c s a (answer.Dropped (Some file) (cause.Gone want found shut)) = IsGone c s a file want found shut
+TellsRing c s a (answer.Read name place bytes) = is_sent c name ≡ true
 TellsRing c s a other = Unit {0}
 
 -- the frame is bad, or answered by its row at SEEN, and then by the ring

@@ -9,10 +9,22 @@
 
 ghost use Rattle.tap_sights.specs.Example.{WorkedIsSighted};
 ghost use Rattle.tap_sights.specs.Laws.{AnswersAreLegal, DropsAreLegal, GoneAreLegal, WaitsAreLegal};
+ghost use Rattle.tap_sights.specs.Laws.{FatesAreLegal, TableIsLegal, TurnsServe};
+ghost use Rattle.tap_sights.specs.Laws.{CutsAreAllTold, LinesAreLegal};
 
 /// What is sighted has legal answers: clause b doesn't fail.
 pub fn answers_are_legal()
     ensures { AnswersAreLegal }
+{}
+
+/// What is sighted has legal lines of its files: clause c doesn't fail.
+pub fn lines_are_legal()
+    ensures { LinesAreLegal }
+{}
+
+/// Of what is sighted the places that resizes cut, as clause c reckons them, are those of the entries that they cut.
+pub fn cuts_are_told()
+    ensures { CutsAreAllTold }
 {}
 
 /// What is sighted has legal drops of frames that found their ring full or its places spent: clause d doesn't fail.
@@ -25,8 +37,7 @@ pub fn gone_are_legal()
     ensures { GoneAreLegal }
 {}
 
-/// What is sighted, where the places that resizes cut are those of their entries, has legal reads and turns that found no
-/// frame ready: clause f doesn't fail.
+/// What is sighted has legal reads and turns that found no frame ready: clause f doesn't fail.
 pub fn waits_are_legal()
     ensures { WaitsAreLegal }
 {}
@@ -34,4 +45,19 @@ pub fn waits_are_legal()
 /// The worked run's trace is sighted.
 pub fn worked_is_sighted()
     ensures { WorkedIsSighted }
+{}
+
+/// What is sighted, with the replays of its guests, has a legal table: clause a doesn't fail.
+pub fn table_is_legal()
+    ensures { TableIsLegal }
+{}
+
+/// What is sighted, with the replays of its guests, has one fate for each frame: clause h doesn't fail.
+pub fn fates_are_legal()
+    ensures { FatesAreLegal }
+{}
+
+/// The file that a turn serves by the printed steps is the one that its ring has as its first step is printed.
+pub fn turns_serve()
+    ensures { TurnsServe }
 {}
