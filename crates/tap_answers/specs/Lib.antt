@@ -1,0 +1,12 @@
+pub mod SaysShared
+pub mod SaysSends
+pub mod SaysReads
+pub mod SaysWrites
+pub mod SaysOperations
+pub mod SaysBackends
+pub mod SaysGuests
+pub mod SaysTurns
+pub mod Says
+pub mod Laws
+pub mod NoRing
+pub mod Idle

@@ -1,0 +1,12 @@
+mod Lists
+mod Along
+mod Blocks
+mod Commands
+mod Operations
+mod Ended
+mod Answers
+mod Files
+mod Guests
+mod Shaped
+mod Numbers
+mod Behind
