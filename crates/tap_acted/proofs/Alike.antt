@@ -1,5 +1,5 @@
 -- A call on a vhost or a driver doesn't look at who holds the turns of rings.
-use Rattle.std.proofs.Common.{◌≡◌, ℕ, ◌+◌, List, length, Bool, true, false, Option, Some, None, refl}
+use Rattle.std.proofs.Common.{◌≡◌, ℕ, ◌+◌, length, Bool, true, false, Option, Some, None, refl}
 use Rattle.std.specs.Prelude.{◌==◌, if◌then◌else◌, option_map}
 use Rattle.std.specs.Option.{option_map_or}
 use Rattle.guest_mem.specs.Memory.{Contents}
@@ -12,7 +12,6 @@ use Rattle.vring_drive.specs.declared.error.PostErr.{PostErr}
 use Rattle.vring_drive.specs.Area.{drive_refusal}
 use Rattle.vring_drive.specs.Books.{Books, first_books}
 use Rattle.vring_drive.specs.Posts.{full_pieces, post_in_refusal, post_out_refusal, posted_in, posted_out}
-use Rattle.scen_words.specs.declared.command.Command.{Command}
 use Rattle.scen_words.specs.declared.command.Command.TheVariants as command
 use Rattle.tap_trace.specs.declared.answer.Answer.{Answer}
 use Rattle.tap_trace.specs.declared.answer.Answer.TheVariants as answer
@@ -21,7 +20,7 @@ use Rattle.tap_trace.specs.declared.kind.Kind.{Kind}
 use Rattle.tap_trace.specs.declared.kind.Kind.TheVariants as kind
 use Rattle.tap_ground.specs.Options.{◌>>=◌}
 use Rattle.tap_world.specs.Guests.{Vhost, driver_of}
-use Rattle.tap_world.specs.StepControl.{Call, call_of, called, drive_told, driven, harvests, on_ring, post_told, posts, refused, told_by, with_books}
+use Rattle.tap_world.specs.StepControl.{Call, called, drive_told, driven, harvests, on_ring, post_told, posts, refused, told_by, with_books}
 use Rattle.tap_acted.specs.Laws.{CallsAreAlike, held_call}
 use Rattle.tap_acted.specs.Standing.{held_by}
 

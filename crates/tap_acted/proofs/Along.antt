@@ -1,5 +1,5 @@
 -- The acts of a run, one event after another.
-use Rattle.std.proofs.Common.{◌≡◌, ℕ, zero, suc, ◌+◌, ◌≤◌, List, [], ◌∷◌, ◌++◌, length, map, Option, Some, None, inl, refl, sym, ap, ◌∙◌, subst, arith}
+use Rattle.std.proofs.Common.{◌≡◌, ℕ, zero, suc, ◌≤◌, List, [], ◌∷◌, ◌++◌, length, map, Some, inl, refl, sym, ap, ◌∙◌, subst, arith}
 use Rattle.std.specs.Prelude.{take}
 use Rattle.guest_mem.specs.declared.region.Region.{Region}
 use Rattle.scen_text.specs.declared.scenario.Scenario.{Scenario}
@@ -8,10 +8,10 @@ use Rattle.tap_sound.specs.Worlds.{IsWorldOf, OpeningIsFirst}
 use Rattle.tap_steer.specs.After.{after_all}
 use Rattle.tap_world.specs.ByNumber.{at}
 use Rattle.tap_world.specs.Guests.{new_guest}
-use Rattle.tap_world.specs.Runs.{begins, opening}
+use Rattle.tap_world.specs.Runs.{opening}
 use Rattle.tap_world.specs.Setup.{Setup, opening_table, setup_of}
 use Rattle.tap_world.specs.declared.told.Published.{Published}
-use Rattle.tap_world.specs.World.{World, newest}
+use Rattle.tap_world.specs.World.{World}
 use Rattle.tap_legal.specs.Case.{Case}
 use Rattle.tap_sights.specs.Acts.{first_state, last_state}
 use Rattle.tap_sights.specs.GuestFacts.{printed}

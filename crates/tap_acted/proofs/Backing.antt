@@ -1,5 +1,5 @@
 -- A backend's command that comes to its ring is one act.
-use Rattle.std.proofs.Common.{◌≡◌, ℕ, Bool, true, Option, Some, None, refl, sym, ap, ◌∙◌}
+use Rattle.std.proofs.Common.{◌≡◌, ℕ, Bool, true, Option, Some, None, refl, ap, ◌∙◌}
 use Rattle.std.specs.Prelude.{◌==◌, ◌&&◌, find, is_none, option_map}
 use Rattle.guest_mem.specs.Memory.{Contents}
 use Rattle.tap_steer.specs.Table.{Table}

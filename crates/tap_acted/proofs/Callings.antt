@@ -1,19 +1,18 @@
 -- A call on a vhost or a driver is one act.
-use Rattle.std.proofs.Common.{◌≡◌, ℕ, suc, ◌<◌, ◌≤◌, List, Bool, true, false, true≢false, Option, Some, None, ⊎_elim, refl, sym, ap, ◌∙◌, subst, arith}
-use Rattle.std.specs.Prelude.{◌==◌, ◌&&◌, ◌||◌, not, if◌then◌else◌, find, option_map, nat_lt}
+use Rattle.std.proofs.Common.{◌≡◌, ℕ, suc, ◌<◌, List, Bool, true, false, true≢false, Option, Some, None, ⊎_elim, refl, sym, ap, ◌∙◌, subst, arith}
+use Rattle.std.specs.Prelude.{◌==◌, ◌&&◌, ◌||◌, not, if◌then◌else◌, option_map}
 use Rattle.std.specs.Option.{option_map_or}
 use Rattle.std.proofs.lemmas.Bool.Decides.{eqb_tells, leb_tells}
 use Rattle.guest_mem.specs.Memory.{Contents}
 use Rattle.scen_words.specs.declared.command.Command.{Command}
 use Rattle.scen_words.specs.declared.command.Command.TheVariants as command
-use Rattle.tap_ground.specs.Options.{◌>>=◌, only_if}
+use Rattle.tap_ground.specs.Options.{only_if}
 use Rattle.tap_world.specs.ByNumber.{at}
-use Rattle.tap_world.specs.Guests.{Guest, Vhost, is_free_for, is_ring, turn_of}
+use Rattle.tap_world.specs.Guests.{Vhost, is_free_for, is_ring, turn_of}
 use Rattle.tap_world.specs.StepControl.{Call, call_of, driven_vhost, may_call}
-use Rattle.tap_world.specs.World.{Actor, World}
+use Rattle.tap_world.specs.World.{Actor}
 use Rattle.tap_legal.specs.Replay.{Under, vhost_named}
-use Rattle.tap_legal.specs.ReplayTurns.{is_under_on}
-use Rattle.tap_sights.specs.Acts.{State, called_by}
+use Rattle.tap_sights.specs.Acts.{called_by}
 use Rattle.tap_sound.proofs.Kit.{some_same, some_then}
 use Rattle.tap_sound.proofs.Taken.{both}
 use Rattle.tap_acted.specs.Laws.{CallsAreActs, held_call}

@@ -1,6 +1,6 @@
 -- A guest stands as after no acts where a run opens; and as a phase begins it stands as before.
 use Rattle.std.proofs.Common.{◌≡◌, ℕ, zero, suc, ◌+◌, ◌<◌, List, [], ◌∷◌, map, Bool, true, false, Option, Some, None, refl, sym, ap, ◌∙◌, subst}
-use Rattle.std.specs.Prelude.{◌==◌, if◌then◌else◌, find, option_map, slice_get}
+use Rattle.std.specs.Prelude.{◌==◌, if◌then◌else◌, option_map, slice_get}
 use Rattle.guest_mem.specs.declared.region.Region.{Region}
 use Rattle.scen_text.specs.declared.scenario.Phase.{Phase}
 use Rattle.tap_ground.specs.Options.{◌>>=◌}
@@ -13,7 +13,6 @@ use Rattle.tap_world.specs.World.Doing.{Begun}
 use Rattle.tap_legal.specs.Case.{Case}
 use Rattle.tap_legal.specs.Replay.{Under}
 use Rattle.tap_legal.specs.Replays.{vhosts_on}
-use Rattle.tap_legal.specs.ReplayTurns.{is_under_on}
 use Rattle.tap_sights.specs.Acts.{State, first_state}
 use Rattle.tap_sound.proofs.Kit.{some_same}
 use Rattle.tap_sound.proofs.Scripts.{ended_each}

@@ -1,9 +1,8 @@
 -- A poke or a peek is one act.
-use Rattle.std.proofs.Common.{◌≡◌, ℕ, List, Bool, true, Option, Some, None, ⊎_elim, refl, sym, ap, ◌∙◌, subst}
+use Rattle.std.proofs.Common.{◌≡◌, ℕ, List, true, Some, ⊎_elim, refl, sym, ap, ◌∙◌, subst}
 use Rattle.std.specs.Prelude.{◌==◌, length}
 use Rattle.std.proofs.lemmas.Bool.Decides.{eqb_tells}
 use Rattle.guest_mem.specs.Memory.{Contents, first_bad}
-use Rattle.scen_words.specs.declared.command.Command.{Command}
 use Rattle.scen_words.specs.declared.command.Command.TheVariants as command
 use Rattle.tap_trace.specs.declared.kind.Kind.TheVariants as kind
 use Rattle.tap_ground.specs.Options.{◌>>=◌, only_if}
@@ -14,8 +13,6 @@ use Rattle.tap_world.specs.Effect.Onward.{Ends}
 use Rattle.tap_world.specs.Guests.{Guest}
 use Rattle.tap_world.specs.StepControl.{peeked, poke_leaves, poke_told, poked, pokes}
 use Rattle.tap_world.specs.World.{World}
-use Rattle.tap_legal.specs.Case.{Case}
-use Rattle.tap_legal.specs.Numbered.{Told}
 use Rattle.tap_sights.specs.Acts.{Done, State, done_as}
 use Rattle.tap_sights.specs.Acts.What.{OnBytes}
 use Rattle.tap_sound.proofs.Kit.{some_same, then_some}

@@ -1,15 +1,15 @@
 -- An event of a turn on its ring is one act.
-use Rattle.std.proofs.Common.{◌≡◌, ℕ, ◌<◌, List, [], Bool, true, Option, Some, None, refl, sym, ap, ◌∙◌, subst}
+use Rattle.std.proofs.Common.{◌≡◌, ℕ, [], Bool, true, Option, Some, None, ap, ◌∙◌, subst}
 use Rattle.std.specs.Prelude.{◌==◌, ◌&&◌, if◌then◌else◌, find, is_none}
 use Rattle.tap_ground.specs.Options.{◌>>=◌, only_if}
 use Rattle.tap_trace.specs.declared.answer.Answer.TheVariants as answer
 use Rattle.tap_world.specs.ByNumber.{at}
 use Rattle.tap_world.specs.Guests.{Guest, Vhost, turn_of}
 use Rattle.tap_world.specs.StepTurns.{is_off, turn_on}
-use Rattle.tap_world.specs.World.{Actor, World}
+use Rattle.tap_world.specs.World.{World}
 use Rattle.tap_legal.specs.Replay.{Under}
 use Rattle.tap_legal.specs.ReplayTurns.{is_under_on}
-use Rattle.tap_sights.specs.Acts.{State, done_as, step_in, under_by}
+use Rattle.tap_sights.specs.Acts.{State, done_as, under_by}
 use Rattle.tap_sights.specs.Acts.What.{Turned}
 use Rattle.tap_sound.proofs.Kit.{some_then}
 use Rattle.tap_acted.specs.Laws.{FoundOffIsAnAct, TurnsBegin, TurnsGoOn, first_turn}

@@ -1,6 +1,5 @@
 -- This project's own: the acts that a run made on a guest, one for each of its events that is one.
-use Rattle.std.specs.Prelude.{ℕ, ◌==◌, if◌then◌else◌, List, [], ◌∷◌, ◌++◌, slice_get, Option, Some, None, option_map, option_to_list}
-use Rattle.std.specs.Option.{option_map_or}
+use Rattle.std.specs.Prelude.{ℕ, ◌==◌, List, [], ◌++◌, slice_get, Option, Some, None, option_map, option_to_list}
 use Rattle.tap_ledger.specs.declared.hand.Hand.{Hand}
 use Rattle.tap_ledger.specs.declared.hand.Hand.TheVariants as hand
 use Rattle.scen_text.specs.declared.scenario.Scenario.{Scenario}
@@ -11,7 +10,7 @@ use Rattle.tap_world.specs.declared.event.Event.{Event}
 use Rattle.tap_world.specs.declared.event.EventKind.{EventKind}
 use Rattle.tap_world.specs.declared.event.EventKind.TheVariants as event
 use Rattle.tap_world.specs.ByNumber.{at}
-use Rattle.tap_world.specs.Guests.{Vhost, is_ring}
+use Rattle.tap_world.specs.Guests.{is_ring}
 use Rattle.tap_world.specs.Line.{front_place}
 use Rattle.tap_world.specs.LineSteps.{changed}
 use Rattle.tap_world.specs.LineSteps.Change.{Takes}
@@ -20,7 +19,6 @@ use Rattle.tap_world.specs.StepControl.{driven_vhost}
 use Rattle.tap_world.specs.StepTurns.{front_frame}
 use Rattle.tap_world.specs.World.{Actor, Doing, World, current}
 use Rattle.tap_world.specs.World.Doing.{Backs, Begun, Receives, Transmits}
-use Rattle.tap_legal.specs.Numbered.{Told}
 use Rattle.tap_legal.specs.Replay.{vhost_named}
 use Rattle.tap_sights.specs.Acts.{Act, What}
 use Rattle.tap_sights.specs.Acts.What.{Backed, Called, FoundOff, OnBytes, Turned}

@@ -1,23 +1,22 @@
 -- The answers that acts give are those of the trace.
-use Rattle.std.proofs.Common.{◌≡◌, ℕ, List, [], ◌∷◌, ◌++◌, Option, Some, None, Bool, true, false, refl, sym, ap, ◌∙◌, subst, inl, inr, ⊎_elim, cond, append-nil, true≢false}
+use Rattle.std.proofs.Common.{◌≡◌, ℕ, List, [], ◌∷◌, ◌++◌, Option, Some, Bool, true, false, refl, sym, ap, ◌∙◌, subst, inl, inr, append-nil, true≢false}
 use Rattle.std.specs.Prelude.{◌==◌, ◌&&◌, find, if◌then◌else◌, option_and_then}
 use Rattle.std.specs.Option.{option_map_or}
-use Rattle.std.proofs.lemmas.Bool.{and_from, and_parts, cases_Bool, eq-eqb, eqb-true}
+use Rattle.std.proofs.lemmas.Bool.{and_from, and_parts, eq-eqb, eqb-true}
 use Rattle.std.proofs.lemmas.Slice.Eq.{bytes_eq-Decides}
 use Rattle.tap_trace.specs.declared.answer.Answer.{Answer}
 use Rattle.tap_trace.specs.declared.answer.Answer.TheVariants as answer
-use Rattle.tap_trace.specs.declared.turn.ChainText.{ChainText}
 use Rattle.tap_trace.specs.declared.turn.TurnText.TheVariants as text
 use Rattle.tap_legal.specs.Numbered.{AnswerAt, Asked, Told, same_told}
 use Rattle.tap_legal.specs.Case.{Case}
 use Rattle.tap_legal.specs.Codes.{answer_code, same_answer}
-use Rattle.tap_legal.specs.Lookups.{answer_of, asked_at}
-use Rattle.tap_legal.specs.Replay.{Replay, done_with, with_need_of}
+use Rattle.tap_legal.specs.Lookups.{answer_of}
+use Rattle.tap_legal.specs.Replay.{with_need_of}
 use Rattle.tap_sights.specs.Acts.{Act, Done}
 use Rattle.tap_sights.specs.GuestFacts.{ActTells}
 use Rattle.tap_sights.specs.LineFacts.{IsShaped}
 use Rattle.tap_sights.specs.Sight.{In}
-use Rattle.tap_sights.proofs.Kit.{found, passes, some_same}
+use Rattle.tap_sights.proofs.Kit.{found, passes}
 use Rattle.tap_sights.proofs.Orders.{one_answer}
 
 pub same_told_is : (t u : Told) → same_told t u ≡ true → t ≡ u

@@ -1,6 +1,6 @@
 -- Pokes, peeks, backends, and turns that find no backend, in the replay.
-use Rattle.std.proofs.Common.{◌≡◌, ◌⊎◌, ℕ, List, [], ◌∷◌, ◌++◌, length, Option, Some, None, Bool, true, false, refl, sym, ap, ◌∙◌, subst, inl, inr, ⊎_elim, true≢false}
-use Rattle.std.specs.Prelude.{◌==◌, ◌&&◌, find, is_none, if◌then◌else◌, option_map}
+use Rattle.std.proofs.Common.{◌≡◌, ℕ, List, [], ◌∷◌, ◌++◌, length, Option, Some, None, Bool, true, false, refl, sym, ap, ◌∙◌, subst, inl, inr, ⊎_elim, true≢false}
+use Rattle.std.specs.Prelude.{◌==◌, ◌&&◌, is_none, if◌then◌else◌, option_map}
 use Rattle.std.specs.List.{list_any}
 use Rattle.std.proofs.lemmas.Bool.{and_from, and_parts, eq-eqb, eqb-true}
 use Rattle.guest_mem.specs.Memory.{Contents, first_bad}
@@ -13,17 +13,17 @@ use Rattle.tap_trace.specs.declared.kind.Kind.{Kind}
 use Rattle.tap_trace.specs.declared.kind.Kind.TheVariants as kind
 use Rattle.tap_trace.specs.declared.trace.StepLine.{StepLine}
 use Rattle.tap_trace.specs.declared.turn.TurnText.{TurnText}
-use Rattle.tap_ground.specs.Options.{◌>>=◌, only_if}
+use Rattle.tap_ground.specs.Options.{only_if}
 use Rattle.tap_world.specs.ByNumber.{at, with_at}
 use Rattle.tap_world.specs.Guests.{Vhost, is_ring, turn_of}
 use Rattle.tap_world.specs.StepControl.{peeked, poke_leaves, poke_told}
 use Rattle.tap_world.specs.StepTurns.{is_off, turn_on}
-use Rattle.tap_legal.specs.Numbered.{AnswerAt, StepAt}
+use Rattle.tap_legal.specs.Numbered.{StepAt}
 use Rattle.tap_legal.specs.Case.{Case}
 use Rattle.tap_legal.specs.Lookups.{answer_of, own_ops, table_at}
-use Rattle.tap_legal.specs.Replay.{Replay, Under, Unset, back_made, back_wanted, backed_as, done_with, if_step, peeked_at, poked_at, replay_back, replay_bytes, unset_of, version_for}
-use Rattle.tap_legal.specs.ReplayTurns.{begun, is_under_on, replay_as, replay_step, replay_turn, turn_step, under_on}
-use Rattle.tap_sights.specs.Acts.{Act, Done, State, What, backed, backs, done_as, found_off, on_bytes}
+use Rattle.tap_legal.specs.Replay.{Replay, Under, Unset, back_made, back_wanted, backed_as, done_with, peeked_at, poked_at, replay_back, unset_of, version_for}
+use Rattle.tap_legal.specs.ReplayTurns.{begun, replay_as, turn_step, under_on}
+use Rattle.tap_sights.specs.Acts.{Act, Done, State, backed, backs, done_as, found_off, on_bytes}
 use Rattle.tap_sights.specs.Acts.What.{Backed, FoundOff, OnBytes}
 use Rattle.tap_sights.specs.GuestFacts.{ActTells}
 use Rattle.tap_sights.specs.LineFacts.{IsShaped}
@@ -37,7 +37,7 @@ use Rattle.tap_acts.proofs.Calls.{freer_in, keeps_turns, replayed_vhost}
 use Rattle.tap_acts.proofs.CallsHeld.{turned}
 use Rattle.tap_acts.proofs.Ends.{Goes, IsLine, IsNext, Leaves, ends, stepped}
 use Rattle.tap_acts.proofs.Printed.{as_back, as_bytes, as_turn, if_step_is}
-use Rattle.tap_acts.proofs.Vhosts.{Freer, both_with, each_with, holder_freer, none_stays}
+use Rattle.tap_acts.proofs.Vhosts.{both_with, each_with, holder_freer, none_stays}
 
 -- ---- backends of a vhost with other turns
 

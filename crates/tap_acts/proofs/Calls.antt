@@ -1,17 +1,15 @@
 -- Calls on vhosts and drivers in the replay.
-use Rattle.std.proofs.Common.{◌≡◌, ℕ, List, [], ◌∷◌, Option, Some, None, Bool, true, false, refl, sym, ap, ◌∙◌, subst}
+use Rattle.std.proofs.Common.{◌≡◌, ℕ, List, ◌∷◌, Option, Some, None, Bool, true, false, sym, ap, ◌∙◌, subst}
 use Rattle.std.specs.Prelude.{if◌then◌else◌, option_map}
 use Rattle.guest_mem.specs.Memory.{Contents}
 use Rattle.tap_trace.specs.declared.kind.Kind.{Kind}
 use Rattle.tap_trace.specs.declared.trace.StepLine.{StepLine}
-use Rattle.tap_ground.specs.Options.{◌>>=◌}
 use Rattle.tap_world.specs.ByNumber.{at, with_at}
 use Rattle.tap_world.specs.Guests.{Vhost, turn_of}
 use Rattle.tap_world.specs.StepControl.{Call, call_of, may_call}
 use Rattle.tap_world.specs.StepTurns.{turn_on}
 use Rattle.tap_legal.specs.Numbered.{StepAt}
 use Rattle.tap_legal.specs.Case.{Case}
-use Rattle.tap_legal.specs.LegalGuests.{has_steps}
 use Rattle.tap_legal.specs.Replay.{Replay, called_as, done_with, replay_call, vhost_named}
 use Rattle.tap_legal.specs.ReplayTurns.{replay_step}
 use Rattle.tap_sights.specs.Acts.{Act, Done, State, called_by, calls}

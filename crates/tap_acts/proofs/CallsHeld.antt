@@ -1,6 +1,6 @@
 -- A call on a vhost or a driver doesn't look at who holds the turns, but for its own ring's, and leaves them.
-use Rattle.std.proofs.Common.{◌≡◌, ◌⊎◌, ℕ, zero, suc, List, [], ◌∷◌, length, Option, Some, None, Bool, true, false, refl, sym, ap, ◌∙◌, subst, inl, inr, ⊎_elim, cond, true≢false, arith}
-use Rattle.std.specs.Prelude.{◌+◌, ◌==◌, ◌&&◌, nat_lt, nat_le, option_map, is_some}
+use Rattle.std.proofs.Common.{◌≡◌, ◌⊎◌, ℕ, zero, suc, List, [], ◌∷◌, length, Option, Some, None, Bool, true, false, refl, sym, ap, ◌∙◌, inl, inr, ⊎_elim, cond, true≢false, arith}
+use Rattle.std.specs.Prelude.{◌+◌, ◌==◌, option_map, is_some}
 use Rattle.std.specs.Option.{option_map_or}
 use Rattle.std.proofs.lemmas.Bool.{and_from, and_parts, eqb-true, le-leb, ltb-false, ltb-true}
 use Rattle.guest_mem.specs.Memory.{Contents}
@@ -24,7 +24,7 @@ use Rattle.tap_trace.specs.declared.kind.Kind.{Kind}
 use Rattle.tap_trace.specs.declared.kind.Kind.TheVariants as kind
 use Rattle.tap_ground.specs.Options.{◌>>=◌, first_that_holds, only_if}
 use Rattle.tap_world.specs.Guests.{Vhost, driver_of, is_free_for, is_ring, turn_of, with_driver}
-use Rattle.tap_world.specs.StepControl.{Call, call_of, called, drive_told, driven, driver_call, drives, harvest_told, harvests, may_call, on_ring, post_told, posts, refused, told_by, undriven, with_books}
+use Rattle.tap_world.specs.StepControl.{Call, call_of, called, drive_told, driven, driver_call, drives, harvest_told, harvests, may_call, on_ring, post_told, posts, refused, told_by, with_books}
 use Rattle.tap_world.specs.StepTurns.{turn_on}
 use Rattle.tap_legal.specs.Numbered.{StepAt}
 use Rattle.tap_legal.specs.Case.{Case}

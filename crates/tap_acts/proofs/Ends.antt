@@ -1,5 +1,5 @@
 -- How the replay goes on behind an act that ends its command, or that prints nothing and changes nothing.
-use Rattle.std.proofs.Common.{◌≡◌, ◌⊎◌, ℕ, List, [], ◌∷◌, ◌++◌, Option, Some, None, Bool, true, false, refl, sym, ap, ◌∙◌, subst, inl, inr, true≢false}
+use Rattle.std.proofs.Common.{◌≡◌, ◌⊎◌, ℕ, List, [], ◌∷◌, ◌++◌, Option, Some, None, true, false, refl, sym, ap, ◌∙◌, subst, inl, inr, true≢false}
 use Rattle.std.specs.Prelude.{◌==◌, find, is_some, option_map}
 use Rattle.std.specs.List.{list_any}
 use Rattle.guest_mem.specs.Memory.{Contents}

@@ -1,6 +1,6 @@
 -- Turns stay held by those under way: what an act of a turn leaves of who holds what.
-use Rattle.std.proofs.Common.{◌≡◌, ◌≢◌, ◌⊎◌, ℕ, cond, List, [], ◌∷◌, Option, Some, None, Bool, true, false, refl, sym, ap, ◌∙◌, subst, inl, inr, ⊎_elim}
-use Rattle.std.specs.Prelude.{◌==◌, ◌&&◌, not, filter, find, is_none, if◌then◌else◌, option_map}
+use Rattle.std.proofs.Common.{◌≡◌, ◌≢◌, ◌⊎◌, ℕ, cond, List, [], ◌∷◌, Option, Some, None, refl, sym, ap, ◌∙◌, subst, inl, inr, ⊎_elim}
+use Rattle.std.specs.Prelude.{◌==◌, ◌&&◌, not, is_none, if◌then◌else◌, option_map}
 use Rattle.vhost_queue.specs.Queue.{Queue}
 use Rattle.tap_ledger.specs.declared.hand.Hand.{Hand}
 use Rattle.guest_mem.specs.Memory.{Contents}
@@ -17,7 +17,7 @@ use Rattle.tap_legal.specs.Case.{Case}
 use Rattle.tap_legal.specs.Lookups.{asked_at, table_at}
 use Rattle.tap_legal.specs.Replay.{Under, back_made, back_wanted, vhost_named}
 use Rattle.tap_legal.specs.ReplayTurns.{is_under_on, turning_on}
-use Rattle.tap_sights.specs.Acts.{Act, Done, State, What, backed, backs, called_by, does, done_as, found_off, on_bytes, turns, went_on}
+use Rattle.tap_sights.specs.Acts.{Act, Done, State, What, backed, backs, called_by, does, done_as, on_bytes, turns, went_on}
 use Rattle.tap_sights.specs.Acts.What.{Backed, Called, FoundOff, OnBytes, Turned}
 use Rattle.tap_sights.specs.GuestFacts.{ActTells}
 use Rattle.tap_sights.specs.Sight.{In}
@@ -27,7 +27,7 @@ use Rattle.tap_acts.specs.Replaying.{IsHeld, held_as, holder_on}
 use Rattle.tap_acts.proofs.Backs.{back_keeps}
 use Rattle.tap_acts.proofs.Calls.{keeps_turns}
 use Rattle.tap_acts.proofs.CallsHeld.{call_keeps, turned}
-use Rattle.tap_acts.proofs.TurnSteps.{IsOwn, IsTurnStep, its_own, other_after, others_than, own_after, ring_of_turn, turn_step_of, went_by}
+use Rattle.tap_acts.proofs.TurnSteps.{its_own, other_after, others_than, own_after, ring_of_turn, turn_step_of, went_by}
 use Rattle.tap_acts.proofs.Vhosts.{each_with}
 
 -- a vhost whose ring is served by a turn that went on, or is over

@@ -1,6 +1,6 @@
 -- Where each guest's replay is the acts', nothing fails in clause g.
-use Rattle.std.proofs.Common.{◌≡◌, ◌⊎◌, ℕ, zero, suc, ◌+◌, ◌<◌, List, [], ◌∷◌, ◌++◌, map, Option, Some, None, Bool, true, false, refl, sym, ap, ◌∙◌, subst, inl, inr, ⊎_elim, arith}
-use Rattle.std.specs.Prelude.{◌==◌, ◌||◌, not, nat_lt, flat_map, if◌then◌else◌, is_some, option_map}
+use Rattle.std.proofs.Common.{◌≡◌, ℕ, ◌+◌, ◌<◌, List, [], ◌∷◌, Option, Some, None, Bool, true, false, refl, sym, ap, ◌∙◌, subst, inl, inr, ⊎_elim, arith}
+use Rattle.std.specs.Prelude.{◌==◌, ◌||◌, not, flat_map, if◌then◌else◌, is_some, option_map}
 use Rattle.std.specs.List.{list_any}
 use Rattle.std.specs.Option.{option_map_or}
 use Rattle.std.proofs.lemmas.Bool.{cases_eq, eq-eqb, eqb-true, lt-ltb, ne_eqb, or_left, or_right}
@@ -15,12 +15,12 @@ use Rattle.tap_legal.specs.LegalGuests.{answers_no_ring, behind_ring, fits_short
 use Rattle.tap_legal.specs.Lookups.{asked_at}
 use Rattle.tap_legal.specs.Replay.{Replay}
 use Rattle.tap_legal.specs.Replays.{is_whole, replay_of, replays}
-use Rattle.tap_sights.specs.Acts.{Act, Done, first_state, last_state}
+use Rattle.tap_sights.specs.Acts.{Act, Done, first_state}
 use Rattle.tap_sights.specs.GuestFacts.{EachGuest, GuestTells}
 use Rattle.tap_sights.specs.Sight.{In, Ordered}
 use Rattle.tap_sights.specs.Sights.{Sighted}
 use Rattle.tap_sights.proofs.Kit.{any_in, both_none, in_map, in_map_of, none_any, none_fails, none_mapped, some_same}
-use Rattle.tap_acts.specs.Replaying.{Follow, held_as}
+use Rattle.tap_acts.specs.Replaying.{held_as}
 use Rattle.tap_acts.specs.Laws.{EachReplay, GuestsAreDeclared, IsReplay, ShortsFit}
 use Rattle.tap_acts.proofs.Follows.{steps_in_order}
 use Rattle.tap_acts.proofs.Kept.{first_there, vhosts_stay}

@@ -1,10 +1,10 @@
 -- What an act leaves of a turn under way that is another command's.
-use Rattle.std.proofs.Common.{◌≡◌, ◌≢◌, ◌⊎◌, ℕ, cond, List, [], ◌∷◌, Option, Some, None, Bool, true, false, refl, sym, ap, ◌∙◌, subst, inl, inr, ⊎_elim, true≢false}
-use Rattle.std.specs.Prelude.{◌==◌, ◌&&◌, ◌||◌, not, find, is_none, if◌then◌else◌, option_map}
+use Rattle.std.proofs.Common.{◌≡◌, ◌⊎◌, ℕ, cond, List, [], Option, Some, None, Bool, true, false, refl, sym, ap, ◌∙◌, subst, inl, inr, ⊎_elim, true≢false}
+use Rattle.std.specs.Prelude.{◌==◌, ◌&&◌, not, find, is_none, if◌then◌else◌, option_map}
 use Rattle.std.specs.Option.{option_map_or}
 use Rattle.std.proofs.lemmas.Bool.{and_from, and_parts, cases_eq, eq-eqb, eqb-true, ne_eqb, or_from}
 use Rattle.vhost_queue.specs.Queue.{Queue}
-use Rattle.vhost_dev.specs.Settings.{RingSettings, Settings, is_rx, ring_at, with_ring}
+use Rattle.vhost_dev.specs.Settings.{is_rx, ring_at}
 use Rattle.scen_words.specs.declared.command.Command.{Command}
 use Rattle.scen_words.specs.declared.command.Command.TheVariants as command
 use Rattle.tap_trace.specs.declared.answer.Answer.{Answer}
@@ -12,7 +12,7 @@ use Rattle.tap_trace.specs.declared.answer.Answer.TheVariants as answer
 use Rattle.tap_ledger.specs.declared.hand.Hand.{Hand}
 use Rattle.tap_world.specs.ByNumber.{at, with_at}
 use Rattle.tap_world.specs.Guests.{Vhost, is_free_for, is_ring, turn_of, with_queue, with_turn}
-use Rattle.tap_world.specs.StepControl.{Call, call_of, may_call}
+use Rattle.tap_world.specs.StepControl.{call_of, may_call}
 use Rattle.tap_world.specs.StepTurns.{is_off, turn_on}
 use Rattle.tap_legal.specs.Numbered.{Asked}
 use Rattle.tap_legal.specs.Case.{Case}
@@ -22,7 +22,6 @@ use Rattle.tap_legal.specs.ReplayTurns.{is_under_on, turning_on}
 use Rattle.tap_sights.specs.Acts.{Act, Done, State, What, backed, backs, called_by, calls, does, done_as, found_off, on_bytes, turns, under_by}
 use Rattle.tap_sights.specs.Acts.What.{Backed, Called, FoundOff, OnBytes, Turned}
 use Rattle.tap_sights.specs.GuestFacts.{ActTells}
-use Rattle.tap_sights.specs.Sight.{In}
 use Rattle.tap_sights.proofs.Kit.{found, some_same}
 use Rattle.tap_sound.proofs.Kit.{only_some, then_some, where_some}
 use Rattle.tap_acts.specs.Replaying.{IsHeld, is_turn_of, is_turned}

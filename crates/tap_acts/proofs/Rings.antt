@@ -1,8 +1,8 @@
 -- The rings that the replays leave are those of the trace.
-use Rattle.std.proofs.Common.{◌≡◌, ◌⊎◌, ℕ, zero, suc, ◌+◌, ◌≤◌, ◌<◌, List, [], ◌∷◌, ◌++◌, length, map, Option, Some, None, Bool, true, false, refl, sym, ap, ◌∙◌, subst, inl, inr, ⊎_elim, true≢false, arith}
-use Rattle.std.specs.Prelude.{◌==◌, ◌&&◌, ◌||◌, nat_lt, find, flat_map, if◌then◌else◌, is_some, option_map}
+use Rattle.std.proofs.Common.{◌≡◌, ◌⊎◌, ℕ, ◌+◌, ◌<◌, List, [], ◌∷◌, ◌++◌, length, map, Option, Some, None, Bool, true, refl, sym, ap, ◌∙◌, subst, inl, inr, true≢false, arith}
+use Rattle.std.specs.Prelude.{◌==◌, ◌&&◌, nat_lt, flat_map, if◌then◌else◌, is_some}
 use Rattle.std.specs.Option.{option_map_or}
-use Rattle.std.proofs.lemmas.Bool.{and_from, and_parts, cases_eq, eq-eqb, eqb-true, lt-ltb, ltb-true, ne_eqb, or_left, or_right}
+use Rattle.std.proofs.lemmas.Bool.{and_from, and_parts, eq-eqb, eqb-true, lt-ltb, or_left, or_right}
 use Rattle.tap_trace.specs.declared.trace.PositionList.{PositionList}
 use Rattle.tap_trace.specs.declared.trace.RingPart.{RingPart}
 use Rattle.tap_world.specs.ByNumber.{at, numbered}
@@ -14,9 +14,9 @@ use Rattle.tap_legal.specs.LegalGuests.{behind_ring, is_ring_line, lists_fail, r
 use Rattle.tap_legal.specs.Replay.{Replay}
 use Rattle.tap_sights.specs.GuestFacts.{both_rings, ring_on}
 use Rattle.tap_sights.specs.Sight.{In, Ordered}
-use Rattle.tap_sights.proofs.Kit.{both_none, found, in_order, passes, some_same}
+use Rattle.tap_sights.proofs.Kit.{both_none, found, in_order, passes}
 use Rattle.tap_acts.proofs.Answered.{some_found}
-use Rattle.tap_acts.proofs.Lines.{Matched, at_numbered, in_flat, matched_maps, numbered_rise, ordered_map}
+use Rattle.tap_acts.proofs.Lines.{Matched, in_flat, matched_maps, numbered_rise, ordered_map}
 
 -- ---- rings 0 and 1 of each vhost
 

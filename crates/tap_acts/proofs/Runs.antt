@@ -1,18 +1,17 @@
 -- All acts of a guest in the replay, one after another.
-use Rattle.std.proofs.Common.{◌≡◌, ℕ, zero, suc, List, [], ◌∷◌, ◌++◌, map, Option, Some, None, Bool, true, false, refl, sym, ap, ◌∙◌, subst, inl, inr, true≢false}
-use Rattle.std.specs.Prelude.{◌==◌, filter, find, if◌then◌else◌, is_some, option_map}
+use Rattle.std.proofs.Common.{◌≡◌, ℕ, zero, suc, List, [], ◌∷◌, Option, Some, None, Bool, true, false, refl, sym, ap, subst, inl, inr, true≢false}
+use Rattle.std.specs.Prelude.{◌==◌, filter, if◌then◌else◌, option_map}
 use Rattle.std.specs.Option.{option_map_or}
 use Rattle.std.proofs.lemmas.Bool.{eqb-true}
 use Rattle.guest_mem.specs.declared.region.Region.{Region}
 use Rattle.tap_trace.specs.declared.kind.Kind.{Kind}
-use Rattle.tap_ground.specs.Options.{◌>>=◌}
 use Rattle.tap_world.specs.ByNumber.{at}
 use Rattle.tap_world.specs.Guests.{Vhost, new_vhost}
 use Rattle.tap_legal.specs.Numbered.{StepAt}
 use Rattle.tap_legal.specs.Case.{Case}
 use Rattle.tap_legal.specs.Replay.{Replay, Under}
 use Rattle.tap_legal.specs.Replays.{fresh, vhosts_on}
-use Rattle.tap_legal.specs.ReplayTurns.{is_under_on, replay, replay_step}
+use Rattle.tap_legal.specs.ReplayTurns.{replay, replay_step}
 use Rattle.tap_sights.specs.Acts.{Act, Done, State, What, all_done, does, first_state, last_state}
 use Rattle.tap_sights.specs.Acts.What.{Backed, Called, FoundOff, OnBytes, Turned}
 use Rattle.tap_sights.specs.GuestFacts.{ActTells, GuestTells, IsNotAfterAnswer, printed}
@@ -20,7 +19,7 @@ use Rattle.tap_sights.specs.LineFacts.{IsShaped}
 use Rattle.tap_sights.specs.Sight.{In, Ordered, Seen}
 use Rattle.tap_sights.proofs.Kit.{in_filter, some_same}
 use Rattle.tap_sound.proofs.Kit.{then_some}
-use Rattle.tap_acts.specs.Replaying.{Follow, IsAmong, SameUnder, held_as, is_turned, settled}
+use Rattle.tap_acts.specs.Replaying.{Follow, IsAmong, SameUnder, held_as, is_turned}
 use Rattle.tap_acts.specs.Laws.{IsReplay}
 use Rattle.tap_acts.proofs.Backs.{backs_go, bytes_go, off_goes}
 use Rattle.tap_acts.proofs.Calls.{call_goes}

@@ -1,6 +1,6 @@
 -- What the acts to come make of a turn before its next printed step.
-use Rattle.std.proofs.Common.{◌≡◌, ◌⊎◌, ℕ, cond, List, [], ◌∷◌, Option, Some, None, Bool, true, false, refl, sym, ap, ◌∙◌, subst, inl, inr, ⊎_elim, true≢false}
-use Rattle.std.specs.Prelude.{◌==◌, ◌&&◌, find, if◌then◌else◌, is_none, is_some}
+use Rattle.std.proofs.Common.{◌≡◌, ℕ, cond, List, [], ◌∷◌, Option, Some, None, Bool, true, false, refl, sym, ap, ◌∙◌, subst, inl, inr, ⊎_elim, true≢false}
+use Rattle.std.specs.Prelude.{◌==◌, find, is_none}
 use Rattle.std.proofs.lemmas.Bool.{and_from, and_right, cases_eq, eq-eqb, ne_eqb}
 use Rattle.tap_ledger.specs.declared.hand.Hand.{Hand}
 use Rattle.vhost_dev.specs.Settings.{RingSettings, ring_at}
@@ -13,7 +13,7 @@ use Rattle.tap_world.specs.StepControl.{call_of}
 use Rattle.tap_legal.specs.Case.{Case}
 use Rattle.tap_legal.specs.Replay.{Under, vhost_named}
 use Rattle.tap_legal.specs.ReplayTurns.{is_under_on}
-use Rattle.tap_sights.specs.Acts.{Act, Done, State, What, backs, calls, does, found_off, on_bytes, step_in, turns, under_by}
+use Rattle.tap_sights.specs.Acts.{Act, Done, State, What, backs, does, on_bytes, step_in, under_by}
 use Rattle.tap_sights.specs.Acts.What.{Backed, Called, FoundOff, OnBytes, Turned}
 use Rattle.tap_sights.specs.GuestFacts.{ActTells}
 use Rattle.tap_sights.specs.Sight.{In}

@@ -1,27 +1,26 @@
 -- Steps of transmit turns: those that are printed, and the one that gives a frame to the host.
-use Rattle.std.proofs.Common.{◌≡◌, ◌⊎◌, ℕ, cond, List, [], ◌∷◌, Option, Some, None, Bool, true, false, refl, sym, ap, ◌∙◌, subst, true≢false}
-use Rattle.std.specs.Prelude.{◌==◌, find, if◌then◌else◌, is_none, is_some, nat_lt}
+use Rattle.std.proofs.Common.{◌≡◌, ℕ, List, [], ◌∷◌, Option, Some, None, Bool, true, false, refl, sym, ap, ◌∙◌, true≢false}
+use Rattle.std.specs.Prelude.{◌==◌, find, if◌then◌else◌, is_none}
 use Rattle.vring_walk.specs.declared.walk.Fetched.{Fetched}
 use Rattle.vring_walk.specs.declared.walk.Fetched.TheVariants as fetched
 use Rattle.tap_frame.specs.declared.reading.BadFrame.{BadFrame}
 use Rattle.tap_frame.specs.Frame.{FrameValue}
 use Rattle.tap_ledger.specs.declared.act.Act.{Act as Told}
-use Rattle.tap_ledger.specs.declared.act.Act.TheVariants as act
 use Rattle.tap_ledger.specs.declared.hand.Hand.{Hand}
-use Rattle.vhost_dev.specs.Settings.{RingSettings, ring_at}
+use Rattle.vhost_dev.specs.Settings.{RingSettings}
 use Rattle.vring_turns.specs.declared.end.End.{End}
 use Rattle.vring_turns.specs.declared.stage.TxStage.{TxStage}
 use Rattle.vring_turns.specs.declared.stage.TxStage.TheVariants as tx
 use Rattle.vring_turns.specs.Ring.{Gathered, Made, done_in, fetches, found, first_position, publishes, told_of}
 use Rattle.vring_turns.specs.TransmitBytes.{bytes_of_chain, refusal_of}
-use Rattle.vring_turns.specs.TxTurn.{TxState, TxTurn, tx_copies, tx_done, tx_fetches, tx_gives, tx_judged, tx_made, tx_next, tx_publishes, tx_ring, tx_step}
+use Rattle.vring_turns.specs.TxTurn.{TxState, TxTurn, tx_copies, tx_done, tx_gives, tx_judged, tx_made, tx_next, tx_publishes, tx_ring, tx_step}
 use Rattle.tap_trace.specs.declared.turn.ChainText.{ChainText}
 use Rattle.tap_world.specs.Guests.{Vhost}
 use Rattle.tap_world.specs.StepTransmits.{chains_after, tx_state}
 use Rattle.tap_world.specs.StepTurns.{kind_of}
 use Rattle.tap_legal.specs.Replay.{Under}
 use Rattle.tap_legal.specs.Replay.Turning.{Sending}
-use Rattle.tap_legal.specs.ReplayTurns.{is_quiet_tx, is_under_on, turning_on, tx_answer}
+use Rattle.tap_legal.specs.ReplayTurns.{is_quiet_tx, is_under_on, tx_answer}
 use Rattle.tap_sights.specs.Acts.{Done, State, step_in, went_on}
 use Rattle.tap_sights.proofs.Kit.{some_same}
 use Rattle.tap_sound.proofs.Kit.{WhereSome, then_some, where_some}

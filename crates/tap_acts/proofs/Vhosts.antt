@@ -8,7 +8,7 @@ use Rattle.tap_world.specs.Guests.{Vhost, is_free_for, is_ring, turn_of}
 use Rattle.tap_legal.specs.Replay.{Under}
 use Rattle.tap_legal.specs.ReplayTurns.{is_under_on}
 use Rattle.tap_sights.specs.Acts.{Act, Done}
-use Rattle.tap_acts.specs.Replaying.{SameUnder, held_as, holder_on, is_turn_of, is_turned, settled, gone_on}
+use Rattle.tap_acts.specs.Replaying.{SameUnder, holder_on, is_turn_of, is_turned, settled, gone_on}
 
 -- ---- by number
 

@@ -1,5 +1,5 @@
 -- This project's own: what the acts on a guest give of its replay.
-use Rattle.std.specs.Prelude.{◌≡◌, ℕ, true, false, List, [], ◌∷◌, Option, Some}
+use Rattle.std.specs.Prelude.{◌≡◌, ℕ, true, false, List, [], ◌∷◌, Some}
 use Rattle.guest_mem.specs.declared.region.Region.{Region}
 use Rattle.tap_world.specs.ByNumber.{at, numbered}
 use Rattle.tap_legal.specs.Numbered.{AnswerAt}

@@ -1,5 +1,5 @@
 -- This project's own: how the replay of a guest's printed steps stands to the acts on it, of which some print nothing.
-use Rattle.std.specs.Prelude.{◌≡◌, ◌⊎◌, ℕ, ◌≤◌, ◌==◌, ◌&&◌, if◌then◌else◌, Bool, true, false, is_some, is_none, filter, find, flat_map, option_map, length, List, [], ◌∷◌, ◌++◌, Option, Some, None}
+use Rattle.std.specs.Prelude.{◌≡◌, ◌⊎◌, ℕ, ◌≤◌, ◌==◌, ◌&&◌, if◌then◌else◌, Bool, true, false, is_some, is_none, find, flat_map, option_map, length, List, [], ◌∷◌, ◌++◌, Option, Some, None}
 use Rattle.tap_frame.specs.Frame.{FrameValue}
 use Rattle.vring_turns.specs.declared.end.End.{End}
 use Rattle.vring_turns.specs.declared.end.End.TheVariants as end

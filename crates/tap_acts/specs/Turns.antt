@@ -1,6 +1,6 @@
 -- This project's own: what acts make of the turns under way. A turn's quiet steps touch nothing but the turn, so those
 -- that stand behind its last printed step may be taken at once, whatever other commands do meanwhile.
-use Rattle.std.specs.Prelude.{◌≡◌, ℕ, ◌==◌, ◌&&◌, if◌then◌else◌, find, is_none, Bool, true, false, List, Option, Some, None}
+use Rattle.std.specs.Prelude.{◌≡◌, ℕ, if◌then◌else◌, find, is_none, true, false, List, Option, Some, None}
 use Rattle.tap_frame.specs.Frame.{FrameValue}
 use Rattle.tap_ledger.specs.declared.hand.Hand.{Hand}
 use Rattle.vhost_dev.specs.Settings.{RingSettings, ring_at}

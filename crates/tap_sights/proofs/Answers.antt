@@ -1,20 +1,19 @@
 -- What is sighted fails nowhere in clause b.
-use Rattle.std.proofs.Common.{◌≡◌, ◌⊎◌, ℕ, zero, suc, ◌+◌, ◌≤◌, ◌<◌, cond, List, [], ◌∷◌, length, Option, Some, None, Bool, true, false, refl, sym, ap, ◌∙◌, subst, inl, inr, ⊎_elim, true≢false, arith}
+use Rattle.std.proofs.Common.{◌≡◌, ℕ, List, [], length, Option, Some, Bool, true, false, refl, sym, ap, inl, inr, arith}
 use Rattle.std.specs.Prelude.{◌==◌, ◌&&◌, not, nat_lt, nat_le, is_some}
-use Rattle.std.specs.List.{list_any}
-use Rattle.std.proofs.lemmas.Bool.{and_from, and_left, and_right, eq-eqb, eqb-true, ne_eqb, le-leb, lt-leb, lt-ltb, le-ltb, ltb-true}
+use Rattle.std.proofs.lemmas.Bool.{and_from, and_left, and_right, eq-eqb, eqb-true, ne_eqb, le-leb, lt-ltb, le-ltb, ltb-true}
 use Rattle.tap_steer.specs.Select.{shape_of}
 use Rattle.scen_words.specs.declared.command.Command.{Command}
 use Rattle.scen_words.specs.declared.command.Command.TheVariants as command
 use Rattle.tap_trace.specs.declared.answer.Answer.{Answer}
 use Rattle.tap_trace.specs.declared.answer.Answer.TheVariants as answer
 use Rattle.tap_world.specs.Frames.{Front, least_in}
-use Rattle.tap_legal.specs.Numbered.{AnswerAt, Asked, OpAt, PhaseAt, Told, same_told}
-use Rattle.tap_legal.specs.Case.{Case, fails_as, fails_each, fails_missing, fails_order, of_answer}
+use Rattle.tap_legal.specs.Numbered.{AnswerAt, Asked, OpAt, Told, same_told}
+use Rattle.tap_legal.specs.Case.{Case, of_answer}
 use Rattle.tap_legal.specs.Lookups.{learnt_by, newest_before, newest_of, ops_of, seen_before, table_at}
-use Rattle.tap_legal.specs.LegalAnswers.{answers_one, b_fails, fits_front, fits_read, fits_write_at, has_answer, has_text, has_worker, is_another, is_answer, is_phase, is_seen_below, is_seen_from, is_seen_own, is_seen_to}
-use Rattle.tap_sights.specs.Sight.{In, Seen}
-use Rattle.tap_sights.specs.Tells.{HasFront, LearnsIt, LearnsNone, Tells, TellsRead, TellsWrite}
+use Rattle.tap_legal.specs.LegalAnswers.{answers_one, b_fails, fits_front, fits_read, fits_write_at, has_answer, has_text, has_worker, is_another, is_answer, is_seen_below, is_seen_from, is_seen_own, is_seen_to}
+use Rattle.tap_sights.specs.Sight.{In}
+use Rattle.tap_sights.specs.Tells.{HasFront, LearnsNone, Tells, TellsRead, TellsWrite}
 use Rattle.tap_sights.specs.LineFacts.{IsAhead}
 use Rattle.tap_sights.specs.Sights.{Sighted}
 use Rattle.tap_sights.proofs.Kit.{any_in, both_none, greatest_to, in_filter, none_any, none_breaks, none_fails, some_is}

@@ -1,15 +1,14 @@
 -- What is sighted fails nowhere in clause e.
-use Rattle.std.proofs.Common.{◌≡◌, ◌⊎◌, ℕ, ◌≤◌, ◌<◌, List, [], ◌∷◌, Option, Some, None, Bool, true, false, refl, sym, ap, ◌∙◌, inl, inr, ⊎_elim, arith}
+use Rattle.std.proofs.Common.{◌≡◌, ℕ, [], Some, Bool, true, refl, ap, ⊎_elim}
 use Rattle.std.specs.Prelude.{◌==◌, ◌&&◌, ◌||◌, not, nat_lt, nat_le, filter}
 use Rattle.std.specs.List.{list_any}
-use Rattle.std.specs.Option.{option_map_or}
-use Rattle.std.proofs.lemmas.Bool.{and_from, or_left, or_right, cases_lt, cases_eq, eq-eqb, ne_eqb, le-leb, lt-ltb}
+use Rattle.std.proofs.lemmas.Bool.{and_from, or_left, or_right, cases_eq, eq-eqb, ne_eqb, le-leb, lt-ltb}
 use Rattle.tap_ledger.specs.declared.fate.Cause.TheVariants as cause
 use Rattle.tap_trace.specs.declared.answer.Answer.{Answer}
 use Rattle.tap_trace.specs.declared.answer.Answer.TheVariants as answer
-use Rattle.tap_legal.specs.Numbered.{AnswerAt, Asked, OpAt}
-use Rattle.tap_legal.specs.Case.{Case, fails_each, of_answer}
-use Rattle.tap_legal.specs.Lookups.{asked_at, attaches_it, ends_it, is_later_own, is_own_next}
+use Rattle.tap_legal.specs.Numbered.{AnswerAt, OpAt}
+use Rattle.tap_legal.specs.Case.{Case, of_answer}
+use Rattle.tap_legal.specs.Lookups.{attaches_it, ends_it, is_later_own}
 use Rattle.tap_legal.specs.LegalGone.{e_fails, ends_above, fits_found, fits_gone, gone_fails, has_row, is_in_time}
 use Rattle.tap_sights.specs.Sight.{In}
 use Rattle.tap_sights.specs.Tells.{IsGone, IsOpNow, TellsRing}

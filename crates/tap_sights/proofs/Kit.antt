@@ -1,8 +1,7 @@
 -- Lists of lines, and tests over them.
 use Rattle.std.proofs.Common.{◌≡◌, ◌⊎◌, ℕ, zero, suc, ◌+◌, ◌-◌, ◌≤◌, ◌<◌, cond, List, [], ◌∷◌, ◌++◌, length, map, Option, Some, None, Bool, true, false, refl, sym, ap, ◌∙◌, subst, inl, inr, ⊎_elim, true≢false, arith}
-use Rattle.std.specs.Prelude.{◌&&◌, ◌||◌, not, max, filter, filter_map, find, flat_map, slice_get}
+use Rattle.std.specs.Prelude.{◌||◌, not, max, filter, filter_map, find, flat_map, slice_get}
 use Rattle.std.specs.List.{cons_option, list_all, list_any}
-use Rattle.std.specs.Option.{option_map_or}
 use Rattle.std.proofs.lemmas.Bool.{and_from, or_left, or_right, or_from, cases_Bool, cases_lt}
 use Rattle.tap_legal.specs.Numbered.{AnswerAt, EntryAt, OpAt, Told, entries_from}
 use Rattle.tap_trace.specs.declared.trace.PlaceLine.{PlaceLine}

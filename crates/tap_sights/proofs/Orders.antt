@@ -1,17 +1,15 @@
 -- What the sights of a trace say of its versions: which operations are seen, and what an answer may rest on.
-use Rattle.std.proofs.Common.{◌≡◌, ◌⊎◌, ℕ, zero, suc, ◌+◌, ◌≤◌, ◌<◌, List, [], ◌∷◌, length, Option, Some, None, Bool, true, false, refl, sym, ap, ◌∙◌, subst, inl, inr, ⊎_elim, true≢false, arith}
-use Rattle.std.specs.Prelude.{◌==◌, ◌&&◌, ◌||◌, not, nat_lt, nat_le, option_map, slice_get}
-use Rattle.std.specs.List.{list_any}
+use Rattle.std.proofs.Common.{◌≡◌, ◌⊎◌, ℕ, zero, suc, ◌≤◌, ◌<◌, Option, Some, None, Bool, true, false, refl, sym, ap, ◌∙◌, subst, inl, inr, ⊎_elim, arith}
+use Rattle.std.specs.Prelude.{◌==◌, ◌&&◌, not, nat_lt, nat_le, option_map}
 use Rattle.std.specs.Option.{option_map_or}
-use Rattle.std.proofs.lemmas.Bool.{and_from, and_left, and_right, and_parts, or_left, or_right, cases_Bool, cases_lt, eq-eqb, eqb-true, ne_eqb, le-leb, lt-leb, leb-true, lt-ltb, le-ltb, ltb-true}
+use Rattle.std.proofs.lemmas.Bool.{and_from, and_left, and_right, and_parts, or_left, or_right, cases_Bool, cases_lt, le-leb, lt-leb, lt-ltb, ltb-true}
 use Rattle.tap_steer.specs.Table.{Table}
-use Rattle.scen_words.specs.declared.command.Command.{Command}
-use Rattle.tap_legal.specs.Numbered.{AnswerAt, Asked, OpAt, Told, same_told}
+use Rattle.tap_legal.specs.Numbered.{AnswerAt, Asked, OpAt, Told}
 use Rattle.tap_legal.specs.Case.{Case}
-use Rattle.tap_legal.specs.Lookups.{asked_at, is_before, is_below_own, is_later_of_actor, is_later_own, is_own_next, last_seen, newest_before, newest_of, seen_before, some_now, table_at, told_of}
-use Rattle.tap_sights.specs.Sight.{In, Ordered, Seen}
-use Rattle.tap_sights.specs.Tells.{IsAnswered, IsNow, IsOpNow}
-use Rattle.tap_sights.specs.LineFacts.{IsAhead, IsShaped, IsTold, OpTells}
+use Rattle.tap_legal.specs.Lookups.{asked_at, is_before, is_below_own, is_later_of_actor, is_later_own, is_own_next, newest_before, newest_of, seen_before, some_now, table_at, told_of}
+use Rattle.tap_sights.specs.Sight.{In}
+use Rattle.tap_sights.specs.Tells.{IsNow, IsOpNow}
+use Rattle.tap_sights.specs.LineFacts.{IsAhead, IsShaped, IsTold}
 use Rattle.tap_sights.specs.Sights.{Sighted}
 use Rattle.tap_sights.proofs.Kit.{greatest_from, greatest_to, in_at, in_order, last_to, none_any, some_is, some_same, there_is}
 

@@ -1,9 +1,8 @@
 -- What the sights of a trace say of places: those that answers put frames into, and those that commands took them from.
-use Rattle.std.proofs.Common.{◌≡◌, ◌⊎◌, ℕ, zero, suc, ◌+◌, ◌≤◌, ◌<◌, cond, List, [], ◌∷◌, ◌++◌, map, Option, Some, None, Bool, true, false, refl, sym, ap, ◌∙◌, subst, inl, inr, ⊎_elim, true≢false, arith}
-use Rattle.std.specs.Prelude.{◌==◌, ◌&&◌, not, nat_lt, nat_le, option_to_list, filter}
-use Rattle.std.specs.List.{list_any}
+use Rattle.std.proofs.Common.{◌≡◌, ℕ, ◌≤◌, ◌<◌, cond, List, [], ◌∷◌, ◌++◌, Option, Some, None, Bool, true, false, refl, sym, ap, ◌∙◌, subst, inl, inr, ⊎_elim, true≢false}
+use Rattle.std.specs.Prelude.{◌==◌, ◌&&◌, not, nat_lt, nat_le, option_to_list}
 use Rattle.std.specs.Option.{option_map_or}
-use Rattle.std.proofs.lemmas.Bool.{and_parts, eqb-true, lt-leb, le-ltb, true_from_ne_false}
+use Rattle.std.proofs.lemmas.Bool.{and_parts, eqb-true, lt-leb, le-ltb}
 use Rattle.tap_frame.specs.declared.name.Name.{Name}
 use Rattle.tap_ledger.specs.declared.fate.Fate.{Fate}
 use Rattle.tap_ledger.specs.declared.fate.Fate.TheVariants as fate
@@ -13,14 +12,14 @@ use Rattle.scen_words.specs.declared.command.Command.TheVariants as command
 use Rattle.tap_trace.specs.declared.answer.Answer.{Answer}
 use Rattle.tap_trace.specs.declared.answer.Answer.TheVariants as answer
 use Rattle.tap_ground.specs.Options.{◌>>=◌, only_if}
-use Rattle.tap_legal.specs.Numbered.{AnswerAt, Asked, EntryAt, OpAt, StepAt, Told}
+use Rattle.tap_legal.specs.Numbered.{AnswerAt, EntryAt, StepAt, Told}
 use Rattle.tap_legal.specs.Case.{Case}
 use Rattle.tap_world.specs.Stands.{same_name}
-use Rattle.tap_legal.specs.Lookups.{asked_at, ending_of, file_read, is_above_before, is_at_most_later, is_before, is_later_of_actor, place_read, placed_in, put_in, taken_from, told_of}
+use Rattle.tap_legal.specs.Lookups.{ending_of, file_read, is_above_before, is_at_most_later, is_before, is_later_of_actor, place_read, placed_in, put_in, taken_from, told_of}
 use Rattle.tap_legal.specs.Takes.{copied, copiers, copies_of, has_guest, purgers, readers, was_purged, was_read}
 use Rattle.tap_sights.specs.Sight.{In, Seen}
 use Rattle.tap_sights.specs.Tells.{IsTaken, Tells, TellsRead, TellsRing}
-use Rattle.tap_sights.specs.LineFacts.{IsLeft, IsTold, TellsFate, WasCopied, WasRead}
+use Rattle.tap_sights.specs.LineFacts.{IsLeft, IsTold, TellsFate}
 use Rattle.tap_sights.specs.Sights.{Sighted}
 use Rattle.tap_sights.proofs.Kit.{in_append, in_filter, in_filter_map, in_map, none_any, some_same}
 use Rattle.tap_sights.proofs.Orders.{one_answer, same_asker, told_answer, told_is}

@@ -1,9 +1,9 @@
 -- What is sighted fails nowhere in clause f, where cuts are told.
-use Rattle.std.proofs.Common.{◌≡◌, ◌⊎◌, ℕ, ◌+◌, ◌-◌, ◌≤◌, ◌<◌, cond, List, [], ◌∷◌, ◌++◌, length, map, Option, Some, None, Bool, true, false, refl, sym, ap, ◌∙◌, subst, inl, inr, ⊎_elim, arith}
-use Rattle.std.specs.Prelude.{◌==◌, ◌&&◌, ◌||◌, not, nat_lt, nat_le, filter}
+use Rattle.std.proofs.Common.{◌≡◌, ℕ, ◌+◌, ◌-◌, ◌≤◌, ◌<◌, cond, List, [], ◌++◌, length, map, Option, Some, None, Bool, true, false, refl, sym, ap, ◌∙◌, subst, inl, inr, ⊎_elim, arith}
+use Rattle.std.specs.Prelude.{◌==◌, ◌&&◌, not, nat_lt, nat_le, filter}
 use Rattle.std.specs.List.{list_any}
 use Rattle.std.specs.Option.{option_map_or}
-use Rattle.std.proofs.lemmas.Bool.{and_from, and_left, and_right, and_parts, or_left, or_right, cases_Bool, cases_eq, cases_lt, eq-eqb, eqb-true, ne_eqb, le-leb, le-ltb, false_from_ne_true}
+use Rattle.std.proofs.lemmas.Bool.{and_from, and_left, and_right, and_parts, or_left, or_right, cases_eq, cases_lt, eq-eqb, eqb-true, ne_eqb, le-leb, le-ltb, false_from_ne_true}
 use Rattle.tap_ledger.specs.declared.fate.Fate.{Fate}
 use Rattle.tap_ledger.specs.declared.fate.Fate.TheVariants as fate
 use Rattle.tap_ledger.specs.declared.fate.Cause.TheVariants as cause
@@ -14,7 +14,7 @@ use Rattle.tap_trace.specs.declared.answer.Answer.TheVariants as answer
 use Rattle.tap_trace.specs.declared.turn.TurnText.TheVariants as text
 use Rattle.tap_world.specs.Setup.{Declared}
 use Rattle.tap_legal.specs.Numbered.{AnswerAt, EntryAt, FileAt, Told, entries_of, same_told}
-use Rattle.tap_legal.specs.Case.{Case, fails_each, of_answer, of_entry}
+use Rattle.tap_legal.specs.Case.{Case, of_answer, of_entry}
 use Rattle.tap_legal.specs.Lookups.{claimed_of, declared, is_before, part_of}
 use Rattle.tap_legal.specs.LegalNotReady.{below_fails, f_fails, fits_again, fits_idle, found_none, has_left_below, is_in_line, is_not_placed, is_not_ready, places_of}
 use Rattle.tap_legal.specs.Served.{served_by}

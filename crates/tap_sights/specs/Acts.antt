@@ -1,13 +1,12 @@
 -- This project's own: the acts on a guest as one fold, with what each was handed; no look ahead.
-use Rattle.std.specs.Prelude.{ℕ, ◌==◌, ◌&&◌, not, if◌then◌else◌, Bool, true, false, List, [], ◌∷◌, ◌++◌, length, filter, find, Option, Some, None, is_none}
-use Rattle.std.specs.Option.{option_map_or}
+use Rattle.std.specs.Prelude.{ℕ, ◌==◌, ◌&&◌, not, if◌then◌else◌, true, false, List, [], ◌∷◌, length, filter, find, Option, Some, None, is_none}
 use Rattle.guest_mem.specs.Memory.{Contents, first_bad}
 use Rattle.guest_mem.specs.Regions.{zeroed}
 use Rattle.guest_mem.specs.declared.region.Region.{Region}
 use Rattle.tap_ledger.specs.declared.hand.Hand.{Hand}
 use Rattle.vhost_dev.specs.Settings.{ring_at}
 use Rattle.vhost_queue.specs.Queue.{Queue}
-use Rattle.vring_turns.specs.RxTurn.{RxTurn, rx_step}
+use Rattle.vring_turns.specs.RxTurn.{rx_step}
 use Rattle.vring_turns.specs.TxTurn.{TxTurn, tx_step}
 use Rattle.scen_words.specs.declared.command.Command.{Command}
 use Rattle.scen_words.specs.declared.command.Command.TheVariants as command
@@ -16,7 +15,6 @@ use Rattle.tap_trace.specs.declared.answer.Answer.TheVariants as answer
 use Rattle.tap_trace.specs.declared.kind.Kind.{Kind}
 use Rattle.tap_trace.specs.declared.kind.Kind.TheVariants as kind
 use Rattle.tap_trace.specs.declared.turn.ChainText.{ChainText}
-use Rattle.tap_trace.specs.declared.turn.TurnText.{TurnText}
 use Rattle.tap_ground.specs.Options.{◌>>=◌, only_if}
 use Rattle.tap_world.specs.ByNumber.{at, with_at}
 use Rattle.tap_world.specs.Guests.{Vhost, is_ring, turn_of, with_queue, with_turn}

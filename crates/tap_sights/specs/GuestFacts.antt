@@ -1,5 +1,5 @@
 -- This project's own: what the guests' steps tell, and the packets of the files.
-use Rattle.std.specs.Prelude.{◌≡◌, ℕ, ◌+◌, ◌≤◌, ◌<◌, ◌==◌, ◌&&◌, length, map, filter, filter_map, flat_map, slice_get, Bool, true, false, is_some, List, [], ◌∷◌, Option, Some, None, IfSome}
+use Rattle.std.specs.Prelude.{◌≡◌, ℕ, ◌≤◌, ◌<◌, ◌==◌, map, filter, filter_map, flat_map, slice_get, true, is_some, List, [], ◌∷◌, Option, Some, None, IfSome}
 use Rattle.std.specs.Option.{option_map_or}
 use Rattle.guest_mem.specs.declared.region.Region.{Region}
 use Rattle.tap_frame.specs.declared.name.Name.{Name}
@@ -8,7 +8,6 @@ use Rattle.tap_ledger.specs.declared.hand.Hand.TheVariants as hand
 use Rattle.tap_ledger.specs.declared.side.Side.{Side}
 use Rattle.tap_steer.specs.declared.operation.Op.TheVariants as op
 use Rattle.tap_steer.specs.Select.{learns}
-use Rattle.scen_words.specs.declared.command.Command.{Command}
 use Rattle.scen_words.specs.declared.command.Command.TheVariants as command
 use Rattle.tap_trace.specs.declared.answer.Answer.{Answer}
 use Rattle.tap_trace.specs.declared.kind.Kind.{Kind}
@@ -17,7 +16,7 @@ use Rattle.tap_trace.specs.declared.trace.StepLine.{StepLine}
 use Rattle.tap_world.specs.ByNumber.{at, numbered}
 use Rattle.tap_world.specs.Guests.{Vhost}
 use Rattle.tap_world.specs.Project.{ring_parts}
-use Rattle.tap_legal.specs.Numbered.{AnswerAt, Asked, EntryAt, FileAt, OpAt, RingAt, StepAt, Told}
+use Rattle.tap_legal.specs.Numbered.{AnswerAt, Asked, EntryAt, OpAt, RingAt, StepAt, Told}
 use Rattle.tap_legal.specs.Case.{Case}
 use Rattle.tap_legal.specs.Codes.{same_answer}
 use Rattle.tap_legal.specs.LegalFates.{fits_packet, is_packet}
@@ -27,7 +26,7 @@ use Rattle.tap_legal.specs.Replay.{Accepted, Packet, frame_named, version_for}
 use Rattle.tap_legal.specs.Replays.{is_set_by}
 use Rattle.tap_legal.specs.Served.{makes_worker, served_by, serves}
 use Rattle.tap_legal.specs.Takes.{copied, has_guest}
-use Rattle.tap_sights.specs.Acts.{Act, Done, What, all_done, first_state, last_state}
+use Rattle.tap_sights.specs.Acts.{Act, Done, all_done, first_state, last_state}
 use Rattle.tap_sights.specs.Acts.What.{Backed, Turned}
 use Rattle.tap_sights.specs.Sight.{In, Ordered, Seen}
 use Rattle.tap_sights.specs.Tells.{IsLooked}

@@ -29,7 +29,7 @@ use Rattle.tap_legal.specs.LegalLines.{has_taker, is_entry_of}
 use Rattle.tap_legal.specs.LegalNotReady.{is_not_placed}
 use Rattle.tap_legal.specs.Served.{served_by}
 use Rattle.tap_legal.specs.Takes.{was_cut, was_read}
-use Rattle.tap_sights.specs.Sight.{In, Seen, Sight}
+use Rattle.tap_sights.specs.Sight.{In, Seen}
 
 -- ---- versions
 

@@ -4,13 +4,18 @@
 //! it, as numbers of the trace (`specs/Sight.antt`); what each answer tells between them (`specs/Tells.antt`); what
 //! operations, files and entries tell (`specs/LineFacts.antt`); and what is done on each guest, as a list of acts with
 //! what each was handed (`specs/Acts.antt`, `specs/GuestFacts.antt`). Nothing in it speaks of worlds, events or
-//! threads: whoever makes runs delivers it. `specs/Laws.antt` says which clauses of a legal trace follow.
+//! threads: whoever makes runs delivers it. `specs/Laws.antt` says which clauses of a legal trace follow; two of them
+//! read the replays of the guests, too, of which `specs/Replayed.antt` says what they need. `specs/Serves.antt` has the
+//! file that a turn serves, by the acts.
 #![tactic(auto)]
 
 ghost use Rattle.tap_sights.specs.Example.{WorkedIsSighted};
-ghost use Rattle.tap_sights.specs.Laws.{AnswersAreLegal, DropsAreLegal, GoneAreLegal, WaitsAreLegal};
-ghost use Rattle.tap_sights.specs.Laws.{FatesAreLegal, TableIsLegal, TurnsServe};
-ghost use Rattle.tap_sights.specs.Laws.{CutsAreAllTold, LinesAreLegal};
+ghost use Rattle.tap_sights.specs.Laws.{AnswersAreLegal, CutsAreAllTold, DropsAreLegal, FatesAreLegal, GoneAreLegal, LinesAreLegal, TableIsLegal, TurnsServe, WaitsAreLegal};
+
+/// What is sighted, with the replays of its guests, has a legal table: clause a doesn't fail.
+pub fn table_is_legal()
+    ensures { TableIsLegal }
+{}
 
 /// What is sighted has legal answers: clause b doesn't fail.
 pub fn answers_are_legal()
@@ -42,16 +47,6 @@ pub fn waits_are_legal()
     ensures { WaitsAreLegal }
 {}
 
-/// The worked run's trace is sighted.
-pub fn worked_is_sighted()
-    ensures { WorkedIsSighted }
-{}
-
-/// What is sighted, with the replays of its guests, has a legal table: clause a doesn't fail.
-pub fn table_is_legal()
-    ensures { TableIsLegal }
-{}
-
 /// What is sighted, with the replays of its guests, has one fate for each frame: clause h doesn't fail.
 pub fn fates_are_legal()
     ensures { FatesAreLegal }
@@ -60,4 +55,9 @@ pub fn fates_are_legal()
 /// The file that a turn serves by the printed steps is the one that its ring has as its first step is printed.
 pub fn turns_serve()
     ensures { TurnsServe }
+{}
+
+/// The worked run's trace is sighted.
+pub fn worked_is_sighted()
+    ensures { WorkedIsSighted }
 {}
